@@ -29,7 +29,7 @@ use Rattle.door_pieces.specs.Entry.{doorBoth, when-refused, when-admitted, tabl
 use Rattle.run.specs.Layout.{tableIn}
 use Rattle.door_open.specs.Opened.{Entered}
 use Rattle.door_pieces.specs.Answers.{not-judged, judge-both}
-use Rattle.run_tests.specs.Cases.{caseRows, direct-is, asked-once}
+use Rattle.run_rows.specs.Cases.{caseRows, direct-is, asked-once}
 
 -- ---- definitions
 

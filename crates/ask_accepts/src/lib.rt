@@ -17,8 +17,8 @@ use model::AcceptAnswer;
 use model::Admission;
 use model::Reason;
 use run::Run;
-use run_tests::cases;
-use run_tests::moments;
+use run_rows::cases;
+use run_rows::moments;
 
 pub mod sync; // M4 and M5, from the rows alone
 
@@ -43,9 +43,7 @@ fn is_system(t: &Run, n: usize, case: u16, m: u16, k: u16) -> bool
     if !(case == cases::CASES) {
         return false;
     }
-    ((m % 3) as u8 == moments::AT)
-        & ((k % 3) as u8 == moments::AT)
-        & run::depends(t, m / 3, k / 3)
+    ((m % 3) as u8 == moments::AT) & ((k % 3) as u8 == moments::AT) & run::depends(t, m / 3, k / 3)
 }
 
 // Whether the row of moment m synchronizes-with the row of moment k, as the first case asks. That walks over all rows, so no other does.

@@ -7,9 +7,9 @@ ghost use Rattle.run.specs.Layout.{tableIn};
 ghost use Rattle.model.specs.Synchronizes.{ends, sequence, takesFrom, carriesOut, carriesIn, carriesOver, synchronizes};
 use door_rows::kinds;
 use run::Run;
-use run_tests::carriers;
-use run_tests::control;
-use run_tests::sequences;
+use run_rows::carriers;
+use run_rows::control;
+use run_rows::sequences;
 
 // M4: whether some row ends the sequence that row a heads no later than row x.
 fn is_ended(t: &Run, n: usize, a: usize, x: usize) -> bool

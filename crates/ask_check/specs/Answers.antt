@@ -28,6 +28,7 @@ use Rattle.find_race.specs.First.{raceOf, foundRace}
 use Rattle.find_axioms.specs.declared.overwritten.Overwrite.{Overwrite}
 use Rattle.find_axioms.specs.declared.overwritten.Overwrite.the-variants as over
 use Rattle.find_axioms.specs.Overwritten.{overwriteOf, foundOverwrite}
+use Rattle.ask_check.specs.Shown.{CycleFrom}
 
 -- ---- definitions
 
@@ -164,8 +165,8 @@ module _ (t : Table) (source : ℕ → ℕ) (n x : ℕ) (w v u : List ℕ) (all 
   row : x ≡ cycleRow t source
   row = start-found t source n x w v all made start
 
-  pub show-asked : Ready t n w → x < n → (x < n) × Ready t n u × Holds EDGE GRID n (edge t source) u × (x ≡ cycleRow t source)
-  show-asked k l = (l, known-kept (omega arith) k (edges-held made frame .1), edges-held made frame .0, row)
+  pub show-asked : Ready t n w → x < n → CycleFrom t source n x u
+  show-asked k l = record { start = l; first = row; ready = known-kept (omega arith) k (edges-held made frame .1); edges = edges-held made frame .0 }
 
   pub judge-cyclic : (size : ℕ) (z c d : List ℕ) → x < n → size ≡ length (cycleRows t source)
       → d ≡ cycleAfter (cyclic (cycleRows t source) (cycleEdges t source)) c → Within LAYERS LAYERS-END u z

@@ -13,10 +13,11 @@ use Rattle.bits.specs.Cube.{cube-kept}
 use Rattle.work_area.specs.Regions.{MUTUAL, LOCATED-END, EDGE, LAYERS-END}
 use Rattle.work_area.specs.State.{Placed}
 use Rattle.find_race.specs.Bytes.{Ready, Bounded}
-use Rattle.sets_of_table.specs.Fit.{Fit, FitRun}
+use Rattle.run.specs.Layout.{tableIn}
+use Rattle.sets_of_table.specs.Fit.{FitRun}
 use Rattle.sets_grids.specs.Grid.{grid-kept}
-use Rattle.sets_grids.specs.Given.{Given, given-few}
-use Rattle.sets_grids.specs.Location.{Judging, judging-placed}
+use Rattle.sets_grids.specs.Given.{given-few, given-kept}
+use Rattle.sets_grids.specs.Location.{ToJudge, judging-placed}
 use Rattle.sets_engine.specs.Engine.{MadeJudging}
 
 -- ---- definitions
@@ -27,35 +28,50 @@ pub record Judges (t : Table) (source : ℕ → ℕ) (r : CheckAnswer) (w u c d 
   pub buffer : d ≡ cycleAfter (verdict t source) c
   pub frame : Within MUTUAL LOCATED-END w u
 
+-- the lent buffers have room: the work area, and one for so many numbers
+pub record Buffers (most : ℕ) (w c : List ℕ) : Type 0 where
+  pub work : WORK ≤ length w
+  pub numbers : most ≤ length c
+
+-- location order by flags; and the bytes of each access are numbers of 16 bits
+pub record Located (t : Table) (n : ℕ) (w : List ℕ) : Type 0 where
+  pub bounded : Bounded t
+  pub ready : Ready t n w
+
 -- ---- laws
 
 pub few-of : {t : List ℕ} {n : ℕ} → FitRun t n → n ≤ ROWS
 unfolding decode
 few-of fits = fits .fit .few
 
-pub bounded-of : {t : Table} → Fit t → Bounded t
-bounded-of fit i l a = fit .ended i l a
-
-pub ready-of : {t : Table} {n : ℕ} {w u : List ℕ} → Fit t → n ≤ ROWS → WORK ≤ length w → Within MUTUAL LOCATED-END w u → Placed t n u → Ready t n u
-ready-of fit few room f l = let e = f .len in (few, omega arith, fit .sized, l)
+pub located : {t : List ℕ} {n : ℕ} {w u : List ℕ} → FitRun t n → WORK ≤ length w → Placed (tableIn t n) n u × Within MUTUAL LOCATED-END w u → Located (tableIn t n) n u
+located fits room m =
+    let e = m .1 .len in
+    record { bounded = λ i l a. fits .fit .ended i l a; ready = (few-of fits, omega arith, fits .fit .sized, m .0) }
 
 -- what is read of the sets, in the words of the other engine
-pub ready-given : {t : Table} {n : ℕ} {s w : List ℕ} → Given t n s w → Judging t n w → Ready t n w
-ready-given g j = (given-few g, g .room, g .opened .fit .sized, judging-placed (given-few g) j)
+pub ready-by-sets : {t : Table} {n : ℕ} {s w : List ℕ} → ToJudge t n s w → Ready t n w
+ready-by-sets j = let few = given-few (j .given) in (few, j .given .room, j .given .opened .fit .sized, judging-placed few (j .judging))
 
 -- edges and the search for a cycle keep it
-pub judging-kept : {t : Table} {n : ℕ} {w u : List ℕ} → n ≤ ROWS → Within EDGE LAYERS-END w u → Judging t n w → Judging t n u
-judging-kept few f j =
+pub judge-kept : {t : Table} {n : ℕ} {s w u : List ℕ} → Within EDGE LAYERS-END w u → ToJudge t n s w → ToJudge t n s u
+judge-kept f g =
+    let few = given-few (g .given) in
+    let j = g .judging in
     record {
-      mutuals = grid-kept (λ h. absurd (omega arith)) f (j .mutuals);
-      laters = grid-kept (λ h. absurd (omega arith)) f (j .laters);
-      some = grid-kept (λ h. absurd (omega arith)) f (j .some);
-      location = cube-kept (λ h. absurd (omega arith)) f (j .location);
-      overlapping = grid-kept (λ h. omega arith) f (j .overlapping);
+      given = given-kept f (g .given);
+      judging =
+          record {
+            mutuals = grid-kept (λ h. absurd (omega arith)) f (j .mutuals);
+            laters = grid-kept (λ h. absurd (omega arith)) f (j .laters);
+            some = grid-kept (λ h. absurd (omega arith)) f (j .some);
+            location = cube-kept (λ h. absurd (omega arith)) f (j .location);
+            overlapping = grid-kept (λ h. omega arith) f (j .overlapping);
+          };
     }
 
-pub given-made : {t : Table} {n : ℕ} {s w u : List ℕ} → MadeJudging t n s w u → WORK ≤ length w → Given t n s u
-given-made m room = record { opened = m .opened; room = let e = m .frame .len in omega arith }
+pub to-judge : {t : Table} {n : ℕ} {s w u : List ℕ} → MadeJudging t n s w u → WORK ≤ length w → ToJudge t n s u
+to-judge m room = record { given = record { opened = m .opened; room = let e = m .frame .len in omega arith }; judging = m .judging }
 
 -- location order, then the verdict
 pub judges : {t : Table} {source : ℕ → ℕ} {r : CheckAnswer} {w v u c d : List ℕ} → Within MUTUAL LOCATED-END w v

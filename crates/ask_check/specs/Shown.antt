@@ -22,6 +22,7 @@ use Rattle.bits.specs.Within.{Within, within-widen}
 use Rattle.bits.specs.Stage.{Holds, holds-kept}
 use Rattle.work_area.specs.Regions.{EDGE, GRID, LAYERS, LAYERS-END}
 use Rattle.work_walks.specs.Layers.{LayersTo, Returns}
+use Rattle.find_race.specs.Bytes.{Ready}
 use Rattle.find_cycle.specs.Shown.{layer-size, shown-below, held-walk, held-length, held-written}
 
 -- ---- definitions
@@ -35,6 +36,20 @@ pub record Numbered (f : ℕ → ℕ) (size : ℕ) (c d : List ℕ) : Type 0 whe
 -- the lowest edge number of step i of the cycle of so many rows that stands in c and starts at x
 unfoldable pub stepNumber : Table → (ℕ → ℕ) → ℕ → ℕ → List ℕ → ℕ → ℕ
 stepNumber t source x size c i = edgeNumber t source (getD c i 0) (cond (ltb (i + 1) size) (getD c (i + 1) 0) x)
+
+-- c has a cycle of so many of n rows, which starts at x
+pub record CycleIn (n x size : ℕ) (c : List ℕ) : Type 0 where
+  pub start : x < n
+  pub few : size ≤ CYCLE-EDGES
+  pub room : CYCLE ≤ length c
+  pub rows : (i : ℕ) → i < size → getD c i 0 < n
+
+-- the work area has location order and the edges, whose first cycle starts at row x of n
+pub record CycleFrom (t : Table) (source : ℕ → ℕ) (n x : ℕ) (w : List ℕ) : Type 0 where
+  pub start : x < n
+  pub first : x ≡ cycleRow t source
+  pub ready : Ready t n w
+  pub edges : Holds EDGE GRID n (edge t source) w
 
 -- ---- laws
 

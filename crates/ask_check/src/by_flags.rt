@@ -9,9 +9,8 @@ ghost use Rattle.work_area.specs.Regions.{MUTUAL, LOCATED-END, EDGE, LAYERS-END
 ghost use Rattle.work_area.specs.State.{Placed};
 ghost use Rattle.run.specs.Layout.{tableIn};
 ghost use Rattle.sets_of_table.specs.Fit.{FitRun};
-ghost use Rattle.find_race.specs.Bytes.{Ready, Bounded};
 ghost use Rattle.find_axioms.specs.Sources.{sourceIn};
-ghost use Rattle.ask_check.specs.Engine.{Judges};
+ghost use Rattle.ask_check.specs.Engine.{Judges, Buffers, Located};
 use crate::answers;
 use model::CheckAnswer;
 use run::Run;
@@ -27,7 +26,7 @@ pub fn locate(t: &Run, n: usize, w: &mut [u64])
 
 // The verdict where no edges make a cycle: overwritten, else a race, else race-free.
 fn settle(t: &Run, n: usize, src: &[u16], w: &[u64]) -> CheckAnswer
-    requires { ⌜ (n ≤ length (now src)) × Bounded (tableIn (now t) n) × Ready (tableIn (now t) n) n (now w) ⌝ }
+    requires { ⌜ (n ≤ length (now src)) × Located (tableIn (now t) n) n (now w) ⌝ }
     ensures { λ r. let t = tableIn (now (t .entry)) n in
         ⌜ r ≡ checkAnswer (overwrittenOr (raceOr race raceFree t) t (sourceIn (now (src .entry)))) ⌝ }
 {
@@ -40,7 +39,7 @@ fn settle(t: &Run, n: usize, src: &[u16], w: &[u64]) -> CheckAnswer
 
 // The verdict, from location order and the sources; a cycle's numbers in c.
 pub fn judge_located(t: &Run, n: usize, src: &[u16], w: &mut [u64], c: &mut [u16]) -> CheckAnswer
-    requires { ⌜ (CYCLE ≤ length (now c)) × (n ≤ length (now src)) × Bounded (tableIn (now t) n) × Ready (tableIn (now t) n) n (now w) ⌝ }
+    requires { ⌜ (CYCLE ≤ length (now c)) × (n ≤ length (now src)) × Located (tableIn (now t) n) n (now w) ⌝ }
     ensures { λ r. ⌜ (r ≡ checkAnswer (verdict (tableIn (now (t .entry)) n) (sourceIn (now (src .entry)))))
         × (now (c .exit) ≡ cycleAfter (verdict (tableIn (now (t .entry)) n) (sourceIn (now (src .entry)))) (now (c .entry)))
         × Within EDGE LAYERS-END (now (w .entry)) (now (w .exit)) ⌝ }
@@ -56,7 +55,7 @@ pub fn judge_located(t: &Run, n: usize, src: &[u16], w: &mut [u64], c: &mut [u16
 
 // The verdict on a run of n rows, from nothing.
 pub fn judge(t: &Run, n: usize, src: &[u16], w: &mut [u64], c: &mut [u16]) -> CheckAnswer
-    requires { ⌜ FitRun (now t) n × (WORK ≤ length (now w)) × (CYCLE ≤ length (now c)) × (n ≤ length (now src)) ⌝ }
+    requires { ⌜ FitRun (now t) n × Buffers CYCLE (now w) (now c) × (n ≤ length (now src)) ⌝ }
     ensures { λ r. ⌜ Judges (tableIn (now (t .entry)) n) (sourceIn (now (src .entry))) r
         (now (w .entry)) (now (w .exit)) (now (c .entry)) (now (c .exit)) ⌝ }
 {

@@ -2,24 +2,23 @@
 ghost use mathlib.Core.Path.{_≡_};
 ghost use Prim.Native.Nat.{_≤_};
 ghost use lib.ListN.{length};
-ghost use Rattle.model.specs.Limits.{WORK, CYCLE};
+ghost use Rattle.model.specs.Limits.{CYCLE};
 ghost use Rattle.model.specs.Check.{verdict, race, raceFree, raceOr, overwrittenOr, checkAnswer, cycleAfter};
 ghost use Rattle.bits.specs.Within.{Within};
 ghost use Rattle.work_area.specs.Regions.{EDGE, LAYERS-END};
 ghost use Rattle.run.specs.Layout.{tableIn};
-ghost use Rattle.model_placing.specs.Judge.{Sourced};
 ghost use Rattle.sets_of_table.specs.Fit.{FitRun};
-ghost use Rattle.sets_grids.specs.Given.{Given};
-ghost use Rattle.sets_grids.specs.Location.{Judging};
+ghost use Rattle.sets_grids.specs.Location.{ToJudge};
+ghost use Rattle.sets_edges.specs.Edges.{Sources};
 ghost use Rattle.find_axioms.specs.Sources.{sourceIn};
-ghost use Rattle.ask_check.specs.Engine.{Judges};
+ghost use Rattle.ask_check.specs.Engine.{Judges, Buffers};
 use crate::answers;
 use model::CheckAnswer;
 use run::Run;
 
 // The verdict where no edges make a cycle: overwritten, else a race, else race-free.
 fn settle(t: &Run, n: usize, src: &[u16], s: &[u64], w: &[u64]) -> CheckAnswer
-    requires { ⌜ (n ≤ length (now src)) × Given (tableIn (now t) n) n (now s) (now w) × Judging (tableIn (now t) n) n (now w) ⌝ }
+    requires { ⌜ (n ≤ length (now src)) × ToJudge (tableIn (now t) n) n (now s) (now w) ⌝ }
     ensures { λ r. let t = tableIn (now (t .entry)) n in
         ⌜ r ≡ checkAnswer (overwrittenOr (raceOr race raceFree t) t (sourceIn (now (src .entry)))) ⌝ }
 {
@@ -40,8 +39,7 @@ pub fn judge_located(
     w: &mut [u64],
     c: &mut [u16],
 ) -> CheckAnswer
-    requires { ⌜ (CYCLE ≤ length (now c)) × (n ≤ length (now src)) × Sourced (tableIn (now t) n) (sourceIn (now src))
-        × Given (tableIn (now t) n) n (now s) (now w) × Judging (tableIn (now t) n) n (now w) ⌝ }
+    requires { ⌜ (CYCLE ≤ length (now c)) × Sources (tableIn (now t) n) n (now src) × ToJudge (tableIn (now t) n) n (now s) (now w) ⌝ }
     ensures { λ r. ⌜ (r ≡ checkAnswer (verdict (tableIn (now (t .entry)) n) (sourceIn (now (src .entry)))))
         × (now (c .exit) ≡ cycleAfter (verdict (tableIn (now (t .entry)) n) (sourceIn (now (src .entry)))) (now (c .entry)))
         × Within EDGE LAYERS-END (now (w .entry)) (now (w .exit)) ⌝ }
@@ -57,8 +55,7 @@ pub fn judge_located(
 
 // The verdict on a run of n rows, from nothing.
 pub fn judge(t: &Run, n: usize, src: &[u16], w: &mut [u64], c: &mut [u16]) -> CheckAnswer
-    requires { ⌜ FitRun (now t) n × (WORK ≤ length (now w)) × (CYCLE ≤ length (now c)) × (n ≤ length (now src))
-        × Sourced (tableIn (now t) n) (sourceIn (now src)) ⌝ }
+    requires { ⌜ FitRun (now t) n × Buffers CYCLE (now w) (now c) × Sources (tableIn (now t) n) n (now src) ⌝ }
     ensures { λ r. ⌜ Judges (tableIn (now (t .entry)) n) (sourceIn (now (src .entry))) r
         (now (w .entry)) (now (w .exit)) (now (c .entry)) (now (c .exit)) ⌝ }
 {

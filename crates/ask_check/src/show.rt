@@ -1,20 +1,19 @@
 // The cycle that a check shows, in the lent buffer: its rows from place 0, its edge numbers from place CYCLE_EDGES, other places zero.
 ghost use mathlib.Core.Path.{_≡_};
 ghost use mathlib.Core.Bool.{cond};
-ghost use Prim.Native.Nat.{ℕ, _+_, _≤_, _<_};
+ghost use Prim.Native.Nat.{_+_, _≤_, _<_};
 ghost use lib.ListN.{length, getD};
 ghost use lib.Dec.{ltb};
 ghost use Rattle.model.specs.Limits.{CYCLE, CYCLE-EDGES};
 ghost use Rattle.run.specs.Layout.{tableIn};
-ghost use Rattle.model.specs.Edge.{edge, cycleRow, cycleRows, cycleEdges};
+ghost use Rattle.model.specs.Edge.{cycleRows, cycleEdges};
 ghost use Rattle.model.specs.Check.{cycleAfter, cyclic};
 ghost use Rattle.bits.specs.Bit.{zeros};
 ghost use Rattle.bits.specs.Within.{Within};
-ghost use Rattle.bits.specs.Stage.{Holds};
-ghost use Rattle.work_area.specs.Regions.{EDGE, GRID, LAYERS, LAYERS-END};
+ghost use Rattle.work_area.specs.Regions.{LAYERS, LAYERS-END};
 ghost use Rattle.find_race.specs.Bytes.{Ready};
 ghost use Rattle.find_axioms.specs.Sources.{sourceIn};
-ghost use Rattle.ask_check.specs.Shown.{Numbered, stepNumber};
+ghost use Rattle.ask_check.specs.Shown.{Numbered, CycleIn, CycleFrom, stepNumber};
 use run::Run;
 
 // The numbers that a cycle is shown in become 0.
@@ -43,8 +42,7 @@ fn next_of(c: &[u16], i: usize, size: usize, x: usize) -> usize
 
 // The lowest edge number of each step of the cycle that stands in c and starts at x.
 fn write_edges(t: &Run, n: usize, src: &[u16], x: usize, size: usize, w: &[u64], c: &mut [u16])
-    requires { ⌜ (x < n) × (size ≤ CYCLE-EDGES) × (CYCLE ≤ length (now c)) × (n ≤ length (now src)) × Ready (tableIn (now t) n) n (now w)
-        × ((i : ℕ) → i < size → getD (now c) i 0 < n) ⌝ }
+    requires { ⌜ CycleIn n x size (now c) × (n ≤ length (now src)) × Ready (tableIn (now t) n) n (now w) ⌝ }
     ensures { λ _. let t = tableIn (now (t .entry)) n in
         ⌜ Numbered (stepNumber t (sourceIn (now (src .entry))) x size (now (c .entry))) size (now (c .entry)) (now (c .exit)) ⌝ }
 {
@@ -59,9 +57,7 @@ fn write_edges(t: &Run, n: usize, src: &[u16], x: usize, size: usize, w: &[u64],
 // Shows the cycle of the edges that starts at its lowest row x, and gives its length.
 // Ruled out: one that leaves an old number after the cycle's rows; one that gives the last step the edge to the row after it.
 pub fn show_cycle(t: &Run, n: usize, src: &[u16], x: usize, w: &mut [u64], c: &mut [u16]) -> usize
-    requires { ⌜ (x < n) × (CYCLE ≤ length (now c)) × (n ≤ length (now src)) × Ready (tableIn (now t) n) n (now w)
-        × Holds EDGE GRID n (edge (tableIn (now t) n) (sourceIn (now src))) (now w)
-        × (x ≡ cycleRow (tableIn (now t) n) (sourceIn (now src))) ⌝ }
+    requires { ⌜ (CYCLE ≤ length (now c)) × (n ≤ length (now src)) × CycleFrom (tableIn (now t) n) (sourceIn (now src)) n x (now w) ⌝ }
     ensures { λ r. let t = tableIn (now (t .entry)) n in
         ⌜ (r ≡ length (cycleRows t (sourceIn (now (src .entry)))))
         × (now (c .exit) ≡ cycleAfter (cyclic (cycleRows t (sourceIn (now (src .entry)))) (cycleEdges t (sourceIn (now (src .entry))))) (now (c .entry)))

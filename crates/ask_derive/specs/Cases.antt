@@ -14,7 +14,7 @@ use Rattle.model.specs.Moment.{rowIn, part, programOrder}
 use Rattle.model.specs.Synchronizes.{synchronizes}
 use Rattle.model.specs.Happens.{ROW-CASES, CASES}
 use Rattle.model.specs.Reason.{lowestCase, stepNumber}
-use Rattle.run_tests.specs.Cases.{nthCaseRows, nth-is}
+use Rattle.run_rows.specs.Cases.{nthCaseRows, nth-is}
 use Rattle.work_area.specs.Regions.{SYNC, GRID}
 use Rattle.work_area.specs.Synced.{Synced}
 

@@ -13,7 +13,7 @@ ghost use Rattle.run.specs.Layout.{rowsIn, tableIn};
 ghost use Rattle.model.specs.Moment.{programOrder};
 ghost use Rattle.model.specs.Happens.{CASES};
 ghost use Rattle.model.specs.Reason.{hasChainBy, stepNumber};
-ghost use Rattle.run_tests.specs.Several.{TwoOf};
+ghost use Rattle.finite.specs.Several.{TwoOf};
 ghost use Rattle.work_area.specs.Regions.{HAPPENS, STEP, CHAINS-END, MOMENTS};
 ghost use Rattle.work_area.specs.Synced.{Synced};
 ghost use Rattle.ask_derive.specs.Layers.{Layered, Leading};
@@ -21,8 +21,8 @@ ghost use Rattle.ask_derive.specs.Cases.{lowestRows};
 use crate::layers;
 use model::Row;
 use run::Run;
-use run_tests::cases;
-use run_tests::moments;
+use run_rows::cases;
+use run_rows::moments;
 
 // ---- the class set
 

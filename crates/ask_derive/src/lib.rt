@@ -14,7 +14,7 @@ ghost use Rattle.ask_derive.specs.Layers.{Asked};
 use model::Admission;
 use model::DeriveAnswer;
 use run::Run;
-use run_tests::moments;
+use run_rows::moments;
 
 pub mod chains; // the class set of a chain, and its steps as numbers
 pub mod layers; // the steps of a class set, and the layers of chains of them
@@ -50,7 +50,7 @@ fn derive_moments(t: &Run, n: usize, e: Ends, w: &mut [u64], c: &mut [u16]) -> D
     }
     flags_sync::sync::make_synced(t, n, w);
     let set = chains::find_set(t, n, first, second, w);
-    if run_tests::cases::CLASS_SETS <= set {
+    if run_rows::cases::CLASS_SETS <= set {
         return DeriveAnswer::NotBefore;
     }
     let size = work_walks::moments::layer_of(w, 3 * n, first) + 1;

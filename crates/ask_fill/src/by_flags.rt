@@ -3,15 +3,16 @@ ghost use mathlib.Core.Path.{_≡_};
 ghost use Prim.Native.Nat.{_≤_};
 ghost use lib.ListN.{length};
 ghost use Rattle.finite.specs.Logic.{_and_};
-ghost use Rattle.model.specs.Limits.{WORK, SOURCES};
+ghost use Rattle.model.specs.Limits.{SOURCES};
 ghost use Rattle.run.specs.Layout.{tableIn};
 ghost use Rattle.model.specs.Edge.{consistent};
 ghost use Rattle.model.specs.Fill.{chosen, sourcesFit, none, filledOr, outcome, fillAnswer, sourcesAfter};
 ghost use Rattle.bits.specs.Within.{Within};
 ghost use Rattle.work_area.specs.Regions.{EDGE, LAYERS-END};
 ghost use Rattle.sets_of_table.specs.Fit.{FitRun};
-ghost use Rattle.find_race.specs.Bytes.{Ready, Bounded};
+ghost use Rattle.find_race.specs.Bytes.{Ready};
 ghost use Rattle.find_axioms.specs.Sources.{sourceIn};
+ghost use Rattle.ask_check.specs.Engine.{Buffers, Located};
 ghost use Rattle.ask_fill.specs.Parts.{Fills};
 use crate::parts;
 use model::FillAnswer;
@@ -65,7 +66,7 @@ fn choose_sources(t: &Run, n: usize, src: &[u16], w: &mut [u64], out: &mut [u16]
 // The answer, from location order and the sources; those that fill the table in out.
 // Ruled out: one that fills a table that has a race; one that writes to out where the answer is no fill.
 pub fn settle(t: &Run, n: usize, src: &[u16], w: &mut [u64], out: &mut [u16]) -> FillAnswer
-    requires { ⌜ (SOURCES ≤ length (now out)) × (n ≤ length (now src)) × Bounded (tableIn (now t) n) × Ready (tableIn (now t) n) n (now w) ⌝ }
+    requires { ⌜ (SOURCES ≤ length (now out)) × (n ≤ length (now src)) × Located (tableIn (now t) n) n (now w) ⌝ }
     ensures { λ r. ⌜ (r ≡ fillAnswer (outcome (tableIn (now (t .entry)) n) (sourceIn (now (src .entry)))))
         × (now (out .exit) ≡ sourcesAfter (outcome (tableIn (now (t .entry)) n) (sourceIn (now (src .entry)))) (now (out .entry)))
         × Within EDGE LAYERS-END (now (w .entry)) (now (w .exit)) ⌝ }
@@ -79,7 +80,7 @@ pub fn settle(t: &Run, n: usize, src: &[u16], w: &mut [u64], out: &mut [u16]) ->
 
 // A fill of a run of n rows, from nothing.
 pub fn fill(t: &Run, n: usize, src: &[u16], w: &mut [u64], out: &mut [u16]) -> FillAnswer
-    requires { ⌜ FitRun (now t) n × (WORK ≤ length (now w)) × (SOURCES ≤ length (now out)) × (n ≤ length (now src)) ⌝ }
+    requires { ⌜ FitRun (now t) n × Buffers SOURCES (now w) (now out) × (n ≤ length (now src)) ⌝ }
     ensures { λ r. ⌜ Fills (tableIn (now (t .entry)) n) (sourceIn (now (src .entry))) r
         (now (w .entry)) (now (w .exit)) (now (out .entry)) (now (out .exit)) ⌝ }
 {

@@ -3,17 +3,17 @@ ghost use mathlib.Core.Path.{_≡_};
 ghost use Prim.Native.Nat.{_≤_};
 ghost use lib.ListN.{length};
 ghost use Rattle.finite.specs.Logic.{_and_};
-ghost use Rattle.model.specs.Limits.{WORK, SOURCES};
+ghost use Rattle.model.specs.Limits.{SOURCES};
 ghost use Rattle.model.specs.Edge.{consistent};
 ghost use Rattle.model.specs.Fill.{chosen, sourcesFit, none, filledOr, outcome, fillAnswer, sourcesAfter};
 ghost use Rattle.bits.specs.Within.{Within};
 ghost use Rattle.work_area.specs.Regions.{EDGE, LAYERS-END};
 ghost use Rattle.run.specs.Layout.{tableIn};
-ghost use Rattle.model_placing.specs.Judge.{Sourced};
 ghost use Rattle.sets_of_table.specs.Fit.{FitRun};
-ghost use Rattle.sets_grids.specs.Given.{Given};
-ghost use Rattle.sets_grids.specs.Location.{Judging};
+ghost use Rattle.sets_grids.specs.Location.{ToJudge};
+ghost use Rattle.sets_edges.specs.Edges.{Sources};
 ghost use Rattle.find_axioms.specs.Sources.{sourceIn};
+ghost use Rattle.ask_check.specs.Engine.{Buffers};
 ghost use Rattle.ask_fill.specs.Parts.{Fills, isNone};
 use crate::parts;
 use find_axioms::overwritten::Overwrite;
@@ -36,8 +36,7 @@ fn is_none(o: Overwrite) -> bool
 // Whether the edges have no cycle and no read's source is overwritten.
 // Ruled out: one that says yes of a cycle of edges where nothing is overwritten; one that writes over location order.
 fn is_consistent(t: &Run, n: usize, src: &[u16], s: &[u64], w: &mut [u64]) -> bool
-    requires { ⌜ (n ≤ length (now src)) × Sourced (tableIn (now t) n) (sourceIn (now src)) × Given (tableIn (now t) n) n (now s) (now w)
-        × Judging (tableIn (now t) n) n (now w) ⌝ }
+    requires { ⌜ Sources (tableIn (now t) n) n (now src) × ToJudge (tableIn (now t) n) n (now s) (now w) ⌝ }
     ensures { λ b. ⌜ (b ≡ consistent (tableIn (now (t .entry)) n) (sourceIn (now (src .entry))))
         × Within EDGE LAYERS-END (now (w .entry)) (now (w .exit)) ⌝ }
 {
@@ -51,7 +50,7 @@ fn is_consistent(t: &Run, n: usize, src: &[u16], s: &[u64], w: &mut [u64]) -> bo
 
 // Whether a check admits the sources, and the table with them is consistent.
 fn is_filled(t: &Run, n: usize, src: &[u16], s: &[u64], w: &mut [u64]) -> bool
-    requires { ⌜ (n ≤ length (now src)) × Given (tableIn (now t) n) n (now s) (now w) × Judging (tableIn (now t) n) n (now w) ⌝ }
+    requires { ⌜ (n ≤ length (now src)) × ToJudge (tableIn (now t) n) n (now s) (now w) ⌝ }
     ensures { λ b. let t = tableIn (now (t .entry)) n in
         ⌜ (b ≡ (sourcesFit t (sourceIn (now (src .entry))) and consistent t (sourceIn (now (src .entry)))))
         × Within EDGE LAYERS-END (now (w .entry)) (now (w .exit)) ⌝ }
@@ -71,7 +70,7 @@ fn choose_sources(
     w: &mut [u64],
     out: &mut [u16],
 ) -> FillAnswer
-    requires { ⌜ (SOURCES ≤ length (now out)) × (n ≤ length (now src)) × Given (tableIn (now t) n) n (now s) (now w) × Judging (tableIn (now t) n) n (now w) ⌝ }
+    requires { ⌜ (SOURCES ≤ length (now out)) × (n ≤ length (now src)) × ToJudge (tableIn (now t) n) n (now s) (now w) ⌝ }
     ensures { λ r. let t = tableIn (now (t .entry)) n in
         ⌜ (r ≡ fillAnswer (filledOr none t (chosen t (sourceIn (now (src .entry))))))
         × (now (out .exit) ≡ sourcesAfter (filledOr none t (chosen t (sourceIn (now (src .entry))))) (now (out .entry)))
@@ -89,7 +88,7 @@ fn choose_sources(
 // The answer, from location order and the sources; those that fill the table in out.
 // Ruled out: one that fills a table that has a race; one that writes to out where the answer is no fill.
 fn settle(t: &Run, n: usize, src: &[u16], s: &[u64], w: &mut [u64], out: &mut [u16]) -> FillAnswer
-    requires { ⌜ (SOURCES ≤ length (now out)) × (n ≤ length (now src)) × Given (tableIn (now t) n) n (now s) (now w) × Judging (tableIn (now t) n) n (now w) ⌝ }
+    requires { ⌜ (SOURCES ≤ length (now out)) × (n ≤ length (now src)) × ToJudge (tableIn (now t) n) n (now s) (now w) ⌝ }
     ensures { λ r. ⌜ (r ≡ fillAnswer (outcome (tableIn (now (t .entry)) n) (sourceIn (now (src .entry)))))
         × (now (out .exit) ≡ sourcesAfter (outcome (tableIn (now (t .entry)) n) (sourceIn (now (src .entry)))) (now (out .entry)))
         × Within EDGE LAYERS-END (now (w .entry)) (now (w .exit)) ⌝ }
@@ -103,7 +102,7 @@ fn settle(t: &Run, n: usize, src: &[u16], s: &[u64], w: &mut [u64], out: &mut [u
 
 // A fill of a run of n rows, from nothing.
 pub fn fill(t: &Run, n: usize, src: &[u16], w: &mut [u64], out: &mut [u16]) -> FillAnswer
-    requires { ⌜ FitRun (now t) n × (WORK ≤ length (now w)) × (SOURCES ≤ length (now out)) × (n ≤ length (now src)) ⌝ }
+    requires { ⌜ FitRun (now t) n × Buffers SOURCES (now w) (now out) × (n ≤ length (now src)) ⌝ }
     ensures { λ r. ⌜ Fills (tableIn (now (t .entry)) n) (sourceIn (now (src .entry))) r
         (now (w .entry)) (now (w .exit)) (now (out .entry)) (now (out .exit)) ⌝ }
 {

@@ -3,7 +3,7 @@ ghost use mathlib.Core.Path.{_≡_};
 ghost use mathlib.Core.Bool.{true};
 ghost use Prim.Native.Nat.{_≤_};
 ghost use lib.ListN.{length};
-ghost use Rattle.model.specs.Limits.{WORK, SOURCES};
+ghost use Rattle.model.specs.Limits.{SOURCES};
 ghost use Rattle.model.specs.Table.{sourceOf};
 ghost use Rattle.model.specs.Check.{wiped};
 ghost use Rattle.model.specs.Fill.{outcome, fillAnswer, sourcesAfter};
@@ -12,6 +12,7 @@ ghost use Rattle.run.specs.Layout.{rowsIn, tableIn};
 ghost use Rattle.door_open.specs.Opened.{RunOf};
 ghost use Rattle.sets_of_table.specs.Fit.{FitRun};
 ghost use Rattle.find_axioms.specs.Sources.{sourceIn};
+ghost use Rattle.ask_check.specs.Engine.{Buffers};
 ghost use Rattle.ask_fill.specs.Parts.{Fills};
 ghost use Rattle.ask_fill.specs.Whole.{FilledBy, FilledBoth};
 use model::Admission;
@@ -22,33 +23,33 @@ pub mod parts; // what both engines do
 pub mod by_flags; // the flags engine
 pub mod by_sets; // the engine by sets of rows
 
-// A fill of a run of n rows, by the engine that `quick` says.
+// A fill of a run of n rows, by the engine by sets, or by the flags engine.
 fn fill_run_by(
-    quick: bool,
+    sets: bool,
     t: &Run,
     n: usize,
     src: &[u16],
     w: &mut [u64],
     out: &mut [u16],
 ) -> FillAnswer
-    requires { ⌜ FitRun (now t) n × (WORK ≤ length (now w)) × (SOURCES ≤ length (now out)) × (n ≤ length (now src)) ⌝ }
+    requires { ⌜ FitRun (now t) n × Buffers SOURCES (now w) (now out) × (n ≤ length (now src)) ⌝ }
     ensures { λ r. ⌜ Fills (tableIn (now (t .entry)) n) (sourceIn (now (src .entry))) r
         (now (w .entry)) (now (w .exit)) (now (out .entry)) (now (out .exit)) ⌝ }
 {
-    if quick {
+    if sets {
         return by_sets::fill(t, n, src, w, out);
     }
     by_flags::fill(t, n, src, w, out)
 }
 
 // The same with the table's own sources; the work area's words end as zeros.
-fn fill_run(t: &Run, n: usize, quick: bool, work: &mut [u64], sources: &mut [u16]) -> FillAnswer
-    requires { ⌜ (WORK ≤ length (now work)) × (SOURCES ≤ length (now sources)) × RunOf true (now t) n ⌝ }
+fn fill_run(t: &Run, n: usize, sets: bool, work: &mut [u64], sources: &mut [u16]) -> FillAnswer
+    requires { ⌜ Buffers SOURCES (now work) (now sources) × RunOf true (now t) n ⌝ }
     ensures { λ r. let o = outcome (tableIn (now (t .entry)) n) (sourceOf (rowsIn (now (t .entry)))) in
         ⌜ (r ≡ fillAnswer o) × (now (work .exit) ≡ wiped (now (work .entry))) × (now (sources .exit) ≡ sourcesAfter o (now (sources .entry))) ⌝ }
 {
     let src = find_sources::sources::read_sources(t, n);
-    let r = fill_run_by(quick, t, n, &src, work, sources);
+    let r = fill_run_by(sets, t, n, &src, work, sources);
     bits::clear(work, 0, model::WORK);
     r
 }
@@ -62,7 +63,7 @@ fn first_byte(piece: &[u8]) -> u8
 
 // Fills the blanks of a table in two pieces, whatever bytes they have, on a device with chains or without: a refusal, a race, none, or the
 // sources of all rows in the lent buffer.
-// Whichever engine `quick` says, the answer is this one. That the numbers of both pieces are bytes is ensured too, for whoever reads what a
+// Whichever of the two engines is asked, the answer is this one. That the numbers of both pieces are bytes is ensured too, for whoever reads what a
 // fill means.
 // Two wrong programs that the contract rules out: one that leaves a choice in the source buffer where the filled table is not
 // consistent; one that names a race and leaves its bits in the work area.
@@ -70,7 +71,7 @@ pub fn fill_by(
     first: &[u8],
     second: &[u8],
     chains: bool,
-    quick: bool,
+    sets: bool,
     work: &mut [u64],
     sources: &mut [u16],
 ) -> FillAnswer
@@ -102,7 +103,7 @@ pub fn fill_by(
             row: x.row,
         };
     };
-    fill_run(&t, count as usize, quick, work, sources)
+    fill_run(&t, count as usize, sets, work, sources)
 }
 
 // The same, by sets of rows.

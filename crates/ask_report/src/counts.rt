@@ -2,8 +2,7 @@
 ghost use mathlib.Core.Path.{_≡_};
 ghost use Rattle.run.specs.Layout.{tableIn};
 ghost use Rattle.model.specs.Report.{shareOf, reportOn};
-ghost use Rattle.sets_grids.specs.Given.{Given};
-ghost use Rattle.sets_grids.specs.Location.{Judging};
+ghost use Rattle.sets_grids.specs.Location.{ToJudge};
 use model::Report;
 use model::ReportAnswer;
 use model::Share;
@@ -23,7 +22,7 @@ pub fn share(racing: u16, conflicting: u16) -> Share
 // The report of a table that is consistent.
 // Ruled out: one that exchanges the mutually-ordered and the ordered pairs; one that reports a share of 0.0 where no pair conflicts.
 pub fn report_of(t: &Run, n: usize, s: &[u64], w: &[u64]) -> ReportAnswer
-    requires { ⌜ Given (tableIn (now t) n) n (now s) (now w) × Judging (tableIn (now t) n) n (now w) ⌝ }
+    requires { ⌜ ToJudge (tableIn (now t) n) n (now s) (now w) ⌝ }
     ensures { λ r. ⌜ r ≡ reportOn (tableIn (now (t .entry)) n) ⌝ }
 {
     let c = sets_races::count_pairs(t, n, s, w);

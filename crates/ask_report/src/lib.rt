@@ -1,9 +1,8 @@
 // The weekly report of a table in one or two pieces: any bytes, and buffers of any length.
 ghost use mathlib.Core.Path.{_≡_};
 ghost use mathlib.Core.Bool.{false};
-ghost use Prim.Native.Nat.{_≤_};
 ghost use lib.ListN.{length};
-ghost use Rattle.model.specs.Limits.{WORK, CYCLE};
+ghost use Rattle.model.specs.Limits.{CYCLE};
 ghost use Rattle.model.specs.Table.{sourceOf};
 ghost use Rattle.model.specs.Check.{verdict, check, checkAnswer, cycleAfter, workAfter, wiped};
 ghost use Rattle.model.specs.Report.{reportAnswer, report};
@@ -11,8 +10,8 @@ ghost use Rattle.door_pieces.specs.Pieces.{checkBoth, reportBoth};
 ghost use Rattle.run.specs.Layout.{rowsIn, tableIn};
 ghost use Rattle.door_open.specs.Opened.{RunOf};
 ghost use Rattle.model_placing.specs.Judge.{Sourced};
-ghost use Rattle.sets_grids.specs.Given.{Given};
-ghost use Rattle.sets_grids.specs.Location.{Judging};
+ghost use Rattle.sets_grids.specs.Location.{ToJudge};
+ghost use Rattle.ask_check.specs.Engine.{Buffers};
 use model::Admission;
 use model::CheckAnswer;
 use model::ReportAnswer;
@@ -22,7 +21,7 @@ pub mod counts; // the four counts, and the share
 
 // A check's answer c as a report's: itself where the table is inconsistent, else the counts.
 fn answer(c: CheckAnswer, t: &Run, n: usize, s: &[u64], w: &[u64]) -> ReportAnswer
-    requires { ⌜ Given (tableIn (now t) n) n (now s) (now w) × Judging (tableIn (now t) n) n (now w) ⌝ }
+    requires { ⌜ ToJudge (tableIn (now t) n) n (now s) (now w) ⌝ }
     ensures { λ r. ⌜ r ≡ reportAnswer c (tableIn (now (t .entry)) n) ⌝ }
 {
     match c {
@@ -51,8 +50,7 @@ fn answer(c: CheckAnswer, t: &Run, n: usize, s: &[u64], w: &[u64]) -> ReportAnsw
 
 // The report of a run of n rows.
 fn report_run(t: &Run, n: usize, work: &mut [u64], cycle: &mut [u16]) -> ReportAnswer
-    requires { ⌜ (WORK ≤ length (now work)) × (CYCLE ≤ length (now cycle)) × RunOf false (now t) n
-        × Sourced (tableIn (now t) n) (sourceOf (rowsIn (now t))) ⌝ }
+    requires { ⌜ Buffers CYCLE (now work) (now cycle) × RunOf false (now t) n × Sourced (tableIn (now t) n) (sourceOf (rowsIn (now t))) ⌝ }
     ensures { λ r. let v = verdict (tableIn (now (t .entry)) n) (sourceOf (rowsIn (now (t .entry)))) in
         ⌜ (r ≡ reportAnswer (checkAnswer v) (tableIn (now (t .entry)) n))
         × (now (work .exit) ≡ wiped (now (work .entry)))

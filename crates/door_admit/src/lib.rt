@@ -66,5 +66,13 @@ pub fn admit(s: &[u8], blanks: bool) -> Admission
     let count = bytes::rows_at(s);
     let p = scopes::read_places(s);
     let counted = scopes::is_counted(s);
-    admit_rows(bytes::row_bytes(s), hosts, p, counted, agents, count, blanks)
+    admit_rows(
+        bytes::row_bytes(s),
+        hosts,
+        p,
+        counted,
+        agents,
+        count,
+        blanks,
+    )
 }

@@ -5,7 +5,7 @@ ghost use Prim.Native.Nat.{ℕ, _+_, _*_, _<_};
 ghost use lib.ListN.{getD};
 ghost use mathlib.Core.Bool.{false};
 ghost use Rattle.model.specs.Header.{shaderPlaceAt, anyPlaceAt, slotAt, placesOf};
-ghost use Rattle.model.specs.Scope.{agentKind, shader, host, shares, together, sameLocation, mutualRows, age, later, laterWriter};
+ghost use Rattle.model.specs.Scope.{agentKind, host, shares, together, sameLocation, mutualRows, age, later, laterWriter};
 ghost use Rattle.model.specs.Table.{modeOf, rowOf};
 ghost use Rattle.door_rows.specs.Places.{IsPlace};
 ghost use Rattle.door_rows.specs.Instances.{ofInstance};

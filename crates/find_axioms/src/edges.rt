@@ -9,7 +9,7 @@ ghost use Rattle.run.specs.Layout.{tableIn, rowsIn};
 ghost use Rattle.model.specs.Table.{rowOf};
 ghost use Rattle.model.specs.Scope.{follows};
 ghost use Rattle.model.specs.Edge.{readsFrom, fromReads, edgeNumber, edge};
-ghost use Rattle.run_tests.specs.Several.{TwoOf};
+ghost use Rattle.finite.specs.Several.{TwoOf};
 ghost use Rattle.work_area.specs.Regions.{EDGE, EDGE-END, GRID};
 ghost use Rattle.find_race.specs.Bytes.{Ready};
 ghost use Rattle.find_axioms.specs.Sources.{sourceIn};
@@ -62,7 +62,7 @@ pub fn from_reads_at(t: &Run, n: usize, src: &[u16], y: usize, z: usize) -> bool
     let q = run::row(t, z as u16);
     let apart = !(y == z) & door_rows::kinds::reads(r);
     if s.is_initial() {
-        return apart & (door_rows::kinds::writes(q) & run_tests::shared::overlap(r, q));
+        return apart & (door_rows::kinds::writes(q) & run_rows::shared::overlap(r, q));
     }
     apart & follows_source(t, n, s.0, z, q)
 }

@@ -4,7 +4,7 @@ ghost use Prim.Native.Nat.{_≤_, _<_};
 ghost use lib.ListN.{length};
 ghost use Rattle.run.specs.Layout.{tableIn};
 ghost use Rattle.model.specs.Edge.{overNth, overWriter, overReader};
-ghost use Rattle.run_tests.specs.Several.{TwoOf};
+ghost use Rattle.finite.specs.Several.{TwoOf};
 ghost use Rattle.find_race.specs.Bytes.{Ready, Bounded};
 ghost use Rattle.find_axioms.specs.Sources.{sourceIn};
 ghost use Rattle.find_axioms.specs.Overwritten.{foundOverwrite};

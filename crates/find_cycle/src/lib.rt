@@ -1,7 +1,7 @@
 // The canonical cycle of the edges that stand as bits in a lent work area: where it begins, and its rows, by the layers of walks back
 // to the first. Nothing but the layers' region of the area changes.
 ghost use mathlib.Core.Path.{_≡_};
-ghost use Prim.Native.Nat.{_≤_, _<_};
+ghost use Prim.Native.Nat.{_≤_};
 ghost use lib.ListN.{length};
 ghost use Rattle.finite.specs.Lists.{Written};
 ghost use Rattle.finite.specs.Walk.{onCycle, cycleStart, trail};
@@ -19,7 +19,7 @@ mod marks; // the rows that may lie on a cycle
 // Whether edges lead from row x back to it. Each row on a cycle with x is in `among`, so the way goes by these alone: `ahead` has those
 // that it hasn't gone on from, `left` those of them that it has reached.
 fn leads_back(w: &[u64], n: usize, x: usize, among: Set) -> bool
-    requires { ⌜ (n ≤ ROWS) × (x < n) × (WORK ≤ length (now w)) × Among n (rel (now w) EDGE GRID) x among ⌝ }
+    requires { ⌜ (n ≤ ROWS) × (WORK ≤ length (now w)) × Among n (rel (now w) EDGE GRID) x among ⌝ }
     ensures { λ b. ⌜ b ≡ onCycle n (rel (now (w .entry)) EDGE GRID) x ⌝ }
 {
     let mut ahead = among;

@@ -9,7 +9,7 @@ ghost use Rattle.model.specs.Race.{unordered};
 ghost use Rattle.find_race.specs.Bytes.{Ready, Bounded, mayRace};
 ghost use Rattle.find_race.specs.First.{foundRace};
 use run::Run;
-use run_tests::shared;
+use run_rows::shared;
 
 pub mod pair; // edge 1, by all bits of a pair
 
@@ -47,7 +47,7 @@ pub fn unordered_at(t: &Run, n: usize, x: usize, y: usize, b: u32, w: &[u64]) ->
 {
     let r = run::row(t, x as u16);
     let q = run::row(t, y as u16);
-    run_tests::pairs::common(r, q, b)
+    run_rows::pairs::common(r, q, b)
         & !before_byte(t, n, x, y, b, w)
         & !before_byte(t, n, y, x, b, w)
 }

@@ -6,7 +6,7 @@ ghost use Rattle.finite.specs.Below.{anyBelow, least};
 ghost use Rattle.model.specs.Limits.{LONGEST};
 ghost use Rattle.run.specs.Layout.{tableIn};
 ghost use Rattle.model.specs.Fill.{notBeforeAt, candidate, choice, chosen};
-ghost use Rattle.run_tests.specs.Several.{TwoOf};
+ghost use Rattle.finite.specs.Several.{TwoOf};
 ghost use Rattle.find_race.specs.Bytes.{Ready};
 ghost use Rattle.find_sources.specs.Sources.{Listed};
 ghost use Rattle.find_sources.specs.Choice.{chosenFrom};

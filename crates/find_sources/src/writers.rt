@@ -5,7 +5,7 @@ ghost use Rattle.finite.specs.Below.{anyBelow};
 ghost use Rattle.model.specs.Limits.{LONGEST};
 ghost use Rattle.run.specs.Layout.{tableIn};
 ghost use Rattle.model.specs.Fill.{writtenBy, written, overwritesBetween, between};
-ghost use Rattle.run_tests.specs.Several.{ThreeOf};
+ghost use Rattle.finite.specs.Several.{ThreeOf};
 ghost use Rattle.find_race.specs.Bytes.{Ready};
 use run::Run;
 

@@ -5,3 +5,4 @@ pub mod Lists
 pub mod Walk
 pub mod Cycle
 pub mod Count
+pub mod Several

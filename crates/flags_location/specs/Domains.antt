@@ -28,7 +28,7 @@ use Rattle.model.specs.Moment.{itself}
 use Rattle.model.specs.Location.{systemBefore, L4, thence, onHost, availableKind, visibleKind, domainKind, seenBy, metFrom, carriedBy, reachesBy, L5}
 use Rattle.work_area.specs.Regions.{HAPPENS, MOMENTS, GRID, HOSTED, HOSTED-END, SYSTEM, SYSTEM-END, MET, REACHED, REACHED-END}
 use Rattle.work_area.specs.State.{Ordered, ordered-kept}
-use Rattle.run_tests.specs.Shared.{mayShare}
+use Rattle.run_rows.specs.Shared.{mayShare}
 use Rattle.flags_location.specs.Order.{hosted}
 use Rattle.flags_location.specs.Given.{Room, Given, GivenRows, given-kept}
 

@@ -22,7 +22,7 @@ use Rattle.model.specs.Availability.{sameReference, L3}
 use Rattle.model.specs.Edge.{beforeNth}
 use Rattle.work_area.specs.Regions.{LOCATION, LOCATION-END, HOSTED, REACHED-END, LOCATED-END, GRID, PAIR, PAIRS}
 use Rattle.work_area.specs.State.{ordered-kept, MadePlaced}
-use Rattle.run_tests.specs.Shared.{mayShare, inside-out}
+use Rattle.run_rows.specs.Shared.{mayShare, inside-out}
 use Rattle.flags_location.specs.Given.{Reaching}
 use Rattle.flags_location.specs.Reach.{MadeReach, reaching-kept}
 

@@ -16,13 +16,13 @@ ghost use Rattle.model.specs.Availability.{L3};
 ghost use Rattle.work_area.specs.Regions.{HAPPENS, MOMENTS};
 ghost use Rattle.flags_location.specs.Chains.{availablePart, visiblePart, mayAvail, maySee, availableRows, visibleRows, widest, meetIn};
 ghost use Rattle.flags_location.specs.Chains.{seen, metAtOnce, startsWith, shownBy, endsAt, endsWith, carriedBy};
-ghost use Rattle.run_tests.specs.Several.{TwoOf, ThreeOf};
+ghost use Rattle.finite.specs.Several.{TwoOf, ThreeOf};
 ghost use Rattle.flags_location.specs.Given.{Pair, Element};
 use crate::happens;
 use model::Row;
 use run::Run;
-use run_tests::moments;
-use run_tests::pairs;
+use run_rows::moments;
+use run_rows::pairs;
 
 // The moments before and after a row, counted from three times the row.
 const BEFORE: usize = 0;

@@ -11,7 +11,7 @@ ghost use Rattle.model.specs.Limits.{ROWS, WORK};
 ghost use Rattle.model.specs.Row.{writes};
 ghost use Rattle.model.specs.Table.{rowOf};
 ghost use Rattle.run.specs.Layout.{placesIn, rowsIn, tableIn};
-ghost use Rattle.run_tests.specs.Several.{TwoOf, ThreeOf};
+ghost use Rattle.finite.specs.Several.{TwoOf, ThreeOf};
 ghost use Rattle.work_area.specs.Regions.{MET, MET-END, REACHED, REACHED-END, GRID};
 ghost use Rattle.work_area.specs.State.{Ordered};
 ghost use Rattle.flags_location.specs.Domains.{thenceBits, seenBits, onwardBits, operationAt, availableOf, visibleOf, isAvailable, outOf, metBy};

@@ -18,7 +18,7 @@ ghost use Rattle.flags_location.specs.Given.{Room, Given, GivenRows};
 use crate::domains;
 use model::Row;
 use run::Run;
-use run_tests::pairs;
+use run_rows::pairs;
 
 // ---- L4: the closure of the dependencies
 

@@ -11,7 +11,7 @@ ghost use Rattle.flags_location.specs.Order.{Prepared};
 ghost use Rattle.flags_location.specs.Given.{Given, GivenRow, GivenRows};
 use crate::chains::Asked;
 use run::Run;
-use run_tests::pairs;
+use run_rows::pairs;
 
 pub mod happens; // happens-before, from the bits
 pub mod chains; // L3's chains

@@ -15,7 +15,7 @@ use crate::chains;
 use crate::happens;
 use model::Row;
 use run::Run;
-use run_tests::moments;
+use run_rows::moments;
 
 // ---- one step
 

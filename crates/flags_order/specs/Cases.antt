@@ -20,7 +20,7 @@ use Rattle.model.specs.Happens.{holdingOf, concernsOf, holding, bySync, toRelea
 use Rattle.model_laws.specs.HappensLaws.{holdsAll, live}
 use Rattle.model_laws.specs.CaseLaws.{row-cases}
 use Rattle.model_laws.specs.HostLaws.{step₁}
-use Rattle.run_tests.specs.Cases.{holdsAt, nthCaseRows, case-one, case-two, case-three, nth-is}
+use Rattle.run_rows.specs.Cases.{holdsAt, nthCaseRows, case-one, case-two, case-three, nth-is}
 
 -- ---- definitions
 

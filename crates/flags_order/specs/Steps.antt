@@ -20,7 +20,7 @@ use Rattle.model.specs.Moment.{AT, programOrder}
 use Rattle.model_laws.specs.HostLaws.{step₁}
 use Rattle.work_area.specs.Regions.{SYNC, STEP, STEP-END, GRID, MOMENTS}
 use Rattle.work_area.specs.Synced.{Synced, synced-kept}
-use Rattle.run_tests.specs.Cases.{holdsAt}
+use Rattle.run_rows.specs.Cases.{holdsAt}
 use Rattle.flags_order.specs.Cases.{stepRows, step-read, step-ends}
 
 -- ---- definitions

@@ -12,8 +12,8 @@ ghost use Rattle.work_area.specs.State.{MadeOrdered};
 ghost use Rattle.work_area.specs.Synced.{Synced};
 ghost use Rattle.flags_order.specs.Sets.{interBy};
 use run::Run;
-use run_tests::cases;
-use run_tests::moments;
+use run_rows::cases;
+use run_rows::moments;
 
 pub mod steps; // M6: the direct cases of inter-thread order
 

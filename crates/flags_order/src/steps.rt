@@ -10,7 +10,7 @@ ghost use Rattle.run.specs.Layout.{modeIn, rowsIn, tableIn};
 ghost use Rattle.model.specs.Moment.{programOrder};
 ghost use Rattle.model.specs.Happens.{step};
 ghost use Rattle.model_laws.specs.HostLaws.{step₁};
-ghost use Rattle.run_tests.specs.Several.{TwoOf};
+ghost use Rattle.finite.specs.Several.{TwoOf};
 ghost use Rattle.work_area.specs.Regions.{SYNC, STEP, STEP-END, GRID, MOMENTS};
 ghost use Rattle.work_area.specs.Synced.{Synced};
 ghost use Rattle.flags_order.specs.Cases.{stepRows};
@@ -18,8 +18,8 @@ ghost use Rattle.flags_order.specs.Steps.{CellMade, RowMade};
 ghost use Rattle.flags_order.specs.System.{systemBy, systemTo};
 use model::Row;
 use run::Run;
-use run_tests::cases;
-use run_tests::moments;
+use run_rows::cases;
+use run_rows::moments;
 
 // ---- direct cases that go by rows
 

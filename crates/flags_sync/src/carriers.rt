@@ -6,10 +6,10 @@ ghost use Rattle.finite.specs.Below.{anyBelow};
 ghost use Rattle.model.specs.Limits.{WORK};
 ghost use Rattle.run.specs.Layout.{tableIn};
 ghost use Rattle.model.specs.Synchronizes.{takesFrom, carriesOut, carriesIn, carriesOver};
-ghost use Rattle.run_tests.specs.Several.{TwoOf, ThreeOf};
+ghost use Rattle.finite.specs.Several.{TwoOf, ThreeOf};
 ghost use Rattle.work_area.specs.Synced.{Sequenced};
 use run::Run;
-use run_tests::carriers;
+use run_rows::carriers;
 
 // M5: whether row y reads from the sequence that the writer x heads, the two being mutually-ordered. Few rows are, so their bit
 // is read first.

@@ -8,10 +8,10 @@ ghost use Rattle.model.specs.Limits.{ROWS, WORK};
 ghost use Rattle.run.specs.Layout.{tableIn};
 ghost use Rattle.model.specs.Scope.{mutually, follows};
 ghost use Rattle.model.specs.Synchronizes.{ends, sequence};
-ghost use Rattle.run_tests.specs.Several.{TwoOf};
+ghost use Rattle.finite.specs.Several.{TwoOf};
 ghost use Rattle.work_area.specs.Regions.{MUTUAL, MUTUAL-END, SEQUENCE, SEQUENCE-END, GRID};
 use run::Run;
-use run_tests::sequences;
+use run_rows::sequences;
 
 // ---- M3
 

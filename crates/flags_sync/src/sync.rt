@@ -8,14 +8,14 @@ ghost use Rattle.finite.specs.Logic.{_and_};
 ghost use Rattle.run.specs.Layout.{tableIn, placesIn};
 ghost use Rattle.model.specs.Scope.{together};
 ghost use Rattle.model.specs.Synchronizes.{syncAtomics, syncFromBarrier, syncToBarrier, syncBarriers, syncControl, synchronizes};
-ghost use Rattle.run_tests.specs.Several.{TwoOf};
+ghost use Rattle.finite.specs.Several.{TwoOf};
 ghost use Rattle.work_area.specs.Regions.{SYNC, SYNC-END, GRID};
 ghost use Rattle.work_area.specs.Synced.{Sequenced, MadeSynced};
 use crate::carriers;
 use crate::heads;
 use model::Row;
 use run::Run;
-use run_tests::control;
+use run_rows::control;
 
 // ---- the cases of M5
 

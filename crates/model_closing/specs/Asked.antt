@@ -3,23 +3,20 @@
 -- class set, what the first release row behind the source has got. For any table and any number of rows. Assumes nothing.
 use mathlib.Core.Path.{_≡_, refl, sym, ap, ap₂, _∙_}
 use mathlib.Core.Bool.{Bool, true, false, cond}
-use mathlib.Core.Logic.{_⊎_, inl, inr, ⊎-elim}
-use Prim.Native.Nat.{ℕ, suc, _+_, _*_, _%_, _≤_, _<_}
+use mathlib.Core.Logic.{_⊎_, inl, inr}
+use Prim.Native.Nat.{ℕ, _+_, _*_, _%_, _≤_, _<_}
 use native.Mathlib.Omega.{arith}
 use native.Mathlib.Decide.{ℕ-discrete}
 use lib.Dec.{eqb, ltb}
 use borrow.Author.Tests.{eqb-true, eq-eqb, ltb-true, lt-ltb, le-ltb, leb-true, le-leb}
 use Rattle.finite.specs.Logic.{_and_, _or_, which, bool-ext, not-both, not-so, not-out, split, and-on, and-on-right, and-false-left}
-use Rattle.finite.specs.Logic.{and-false-right, or-cases, or-left, or-right}
-use Rattle.finite.specs.Below.{anyBelow, any-in, any-out, least, least-cong, least-off}
-use Rattle.finite.specs.Closure.{through-reach}
-use Rattle.model.specs.Limits.{CLASS-SETS}
+use Rattle.finite.specs.Logic.{and-false-right}
+use Rattle.finite.specs.Below.{least, least-cong, least-off}
 use Rattle.model.specs.Row.{plain, meets}
 use Rattle.model.specs.Table.{Table}
 use Rattle.model.specs.Moment.{AT, part, itself, availability, visibility, classesOf, sameAgent, programOrder}
 use Rattle.model.specs.Availability.{availabilityMoment, visibilityMoment}
-use Rattle.model.specs.Happens.{concerns, step, interThread, interThreadBy, happens}
-use Rattle.model_laws.specs.HappensLaws.{happens-is}
+use Rattle.model.specs.Happens.{concerns, interThread}
 use Rattle.model_closing.specs.Tests.{or-off-left, and-under, and-assoc}
 use Rattle.model_closing.specs.Order.{laterRow, fromRow, available-off, visible-off, order-available-at, order-visible-at}
 use Rattle.model_closing.specs.Nodes.{releaser, node, nodeMoment, passesBehind, firstBehind, firstRelease, fromSource, inter-source}

@@ -41,7 +41,7 @@ and-odd a b =
     let l : min (a % 2) (b % 2) < 2 = omega arith in
     omega (arith, e, l)
 
-and-assoc : (a b c : ℕ) → bitAnd (bitAnd a b) c ≡ bitAnd a (bitAnd b c)
+pub and-assoc : (a b c : ℕ) → bitAnd (bitAnd a b) c ≡ bitAnd a (bitAnd b c)
 and-assoc a =
     bin-ind (λ (n : ℕ). (b c : ℕ) → bitAnd (bitAnd n b) c ≡ bitAnd n (bitAnd b c)) (λ b c. refl)
     (λ n ih b c. and-step (bitAnd n b) c
@@ -55,7 +55,7 @@ and-assoc a =
 
 -- ---- laws: class sets
 
-holds-is : (c s : ℕ) → holds c s ≡ true → bitAnd c s ≡ s
+pub holds-is : (c s : ℕ) → holds c s ≡ true → bitAnd c s ≡ s
 unfolding holds
 holds-is c s e = eqb-true (bitAnd c s) s e
 

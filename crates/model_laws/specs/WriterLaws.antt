@@ -38,7 +38,7 @@ same-self r = same-in r r refl refl refl
 pub same-sym : (r q : Row) → sameLocation r q ≡ true → sameLocation q r ≡ true
 same-sym r q e = let a = same-out r q e in same-in q r (sym (a .0)) (sym (a .1)) (sym (a .2))
 
-same-trans : (r q p : Row) → sameLocation r q ≡ true → sameLocation q p ≡ true → sameLocation r p ≡ true
+pub same-trans : (r q p : Row) → sameLocation r q ≡ true → sameLocation q p ≡ true → sameLocation r p ≡ true
 same-trans r q p e f =
     let a = same-out r q e in
     let b = same-out q p f in

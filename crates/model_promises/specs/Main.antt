@@ -23,7 +23,7 @@ use mathlib.Core.Path.{_≡_}
 use mathlib.Core.Bool.{Bool, true, false}
 use mathlib.Core.List.{List, [], _++_}
 use mathlib.Core.Logic.{_⊎_, _↔_}
-use Prim.Native.Nat.{ℕ, _*_, _<_}
+use Prim.Native.Nat.{ℕ, _<_}
 use lib.ListN.{length, drop, replicate}
 use Rattle.model.specs.declared.{Row.Row, Reason.Reason, ReportAnswer.ReportAnswer}
 use Rattle.model.specs.Limits.{WORK, CYCLE, SOURCES, STEPS}

@@ -117,4 +117,3 @@ hosts =
     ∷ record { ask = asCheck; table = hosted [] [] []; gives = checked raceFree }
     ∷ record { ask = asCheck; table = 0 ∷ 0 ∷ 0 ∷ 4 ∷ 4 ∷ 0 ∷ 0 ∷ 0 ∷ []; gives = checked (refused 2 0) }
     ∷ []
-

@@ -66,4 +66,3 @@ shortcuts =
     ∷ record { ask = asOrder 2 4; table = alone 1; gives = reasoned reason.accepted }
     ∷ record { ask = asOrder 1 3; table = alone 1; gives = reasoned reason.accepted }
     ∷ []
-

@@ -136,7 +136,10 @@ fn end_of(t: &Run, at: u8, k: u16) -> u16
 {
     let i = k as usize;
     if i < model::DEPENDENCIES {
-        return bytes::pair_at(part(t, DEPENDS), (at as usize) + i * bytes::DEPENDENCY_BYTES);
+        return bytes::pair_at(
+            part(t, DEPENDS),
+            (at as usize) + i * bytes::DEPENDENCY_BYTES,
+        );
     }
     0
 }

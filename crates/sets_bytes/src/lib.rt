@@ -5,6 +5,7 @@ ghost use lib.ListN.{length};
 ghost use Rattle.model.specs.Limits.{ROWS, WORK, LONGEST};
 ghost use Rattle.run.specs.Layout.{tableIn};
 ghost use Rattle.sets_of_table.specs.Fit.{Fit};
+ghost use Rattle.finite.specs.Several.{TwoOf};
 ghost use Rattle.sets_bytes.specs.Masks.{Mask, sharedBit, movedBit, Adds};
 use run::Run;
 use sets_of_table::fields;
@@ -42,7 +43,7 @@ pub fn shared(t: &Run, n: usize, x: usize, y: usize) -> u64
 
 // The mask m of bytes of x as bits from z's start.
 pub fn moved(t: &Run, n: usize, m: u64, x: usize, z: usize) -> u64
-    requires { ⌜ (x < n) × (z < n) × (m < 2 ^ LONGEST) × Fit (tableIn (now t) n) ⌝ }
+    requires { ⌜ TwoOf n x z × (m < 2 ^ LONGEST) × Fit (tableIn (now t) n) ⌝ }
     ensures { λ r. ⌜ Mask (movedBit (tableIn (now (t .entry)) n) m x z) r ⌝ }
 {
     let a = fields::start(t, x);
@@ -61,7 +62,7 @@ pub fn moved(t: &Run, n: usize, m: u64, x: usize, z: usize) -> u64
 
 // Adds the bytes m to those at which x is location-ordered before y.
 pub fn add(w: &mut [u64], x: usize, y: usize, m: u64)
-    requires { ⌜ (x < ROWS) × (y < ROWS) × (m < 2 ^ LONGEST) × (WORK ≤ length (now w)) ⌝ }
+    requires { ⌜ TwoOf ROWS x y × (m < 2 ^ LONGEST) × (WORK ≤ length (now w)) ⌝ }
     ensures { λ _. ⌜ Adds x y m (now (w .entry)) (now (w .exit)) ⌝ }
 {
     let at = work_area::LOCATION + x * 32 + y / 4;

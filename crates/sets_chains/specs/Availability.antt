@@ -1,5 +1,5 @@
 -- Every availability operation's two sets, operation by operation. Assumes nothing.
-use mathlib.Core.Path.{_≡_, refl, _∙_}
+use mathlib.Core.Path.{_≡_, refl, sym, _∙_}
 use mathlib.Core.Bool.{Bool, true, false}
 use mathlib.Core.List.{List}
 use Prim.Native.Nat.{ℕ}
@@ -28,12 +28,13 @@ use Rattle.sets_chains.specs.Made.{Chained}
 
 -- ---- definitions
 
+-- what operations are made available by, on a device that has chains or not
 pub record Ready (t : Table) (n : ℕ) (chains : Bool) (s w : List ℕ) : Type 0 where
+  pub device : t .chains ≡ chains
   pub given : Given t n s w
   pub after : After t n w
   pub chained : chains ≡ true → Chained t n w
 
--- what operations are made available by, made
 pub record MadeReady (t : Table) (n : ℕ) (chains : Bool) (s w u : List ℕ) : Type 0 where
   pub ready : Ready t n chains s u
   pub frame : Within AVAILABLE-AVAILABLE HAPPENS-END w u
@@ -54,16 +55,18 @@ ready-kept : {t : Table} {n : ℕ} {chains : Bool} {s w u : List ℕ} → Within
 ready-kept f r =
     let l = given-few (r .given) in
     record {
+      device = r .device;
       given = given-kept f (r .given);
       after = after-kept l (omega arith) f (r .after);
       chained = λ e. record { outs = grid-on-kept (λ h. omega arith) f (r .chained e .outs); ins = grid-on-kept (λ h. omega arith) f (r .chained e .ins) };
     }
 
-pub ready-chains : {t : Table} {n : ℕ} {chains : Bool} {s w u : List ℕ} → Given t n s w → Happening t n w → MadeChains t n w u → MadeReady t n chains s w u
-ready-chains g h m =
+pub ready-chains : {t : Table} {n : ℕ} {chains : Bool} {s w u : List ℕ} → chains ≡ t .chains → Given t n s w → Happening t n w → MadeChains t n w u → MadeReady t n chains s w u
+ready-chains d g h m =
     let few = given-few g in
     record {
       ready = record {
+        device = sym d;
         given = given-kept (m .frame) g;
         after = after-kept few (omega arith) (m .frame) (record { rows = h .available-rows; visibles = h .available-visibles });
         chained = λ e. record { outs = m .outs; ins = m .ins };
@@ -71,10 +74,11 @@ ready-chains g h m =
       frame = m .frame;
     }
 
-pub ready-alone : {t : Table} {n : ℕ} {chains : Bool} {s w : List ℕ} → chains ≡ false → Given t n s w → Happening t n w → MadeReady t n chains s w w
-ready-alone {w = w} off g h =
+pub ready-alone : {t : Table} {n : ℕ} {chains : Bool} {s w : List ℕ} → chains ≡ t .chains → chains ≡ false → Given t n s w → Happening t n w → MadeReady t n chains s w w
+ready-alone {w = w} d off g h =
     record {
       ready = record {
+        device = sym d;
         given = g;
         after = record { rows = h .available-rows; visibles = h .available-visibles };
         chained = λ e. not-both e off;

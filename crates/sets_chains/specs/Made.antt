@@ -19,7 +19,9 @@ use Rattle.sets_of_rows.specs.Rows.{Rows, rows-cong, rows-none, rows-or}
 use Rattle.sets_of_table.specs.Known.{Opened}
 use Rattle.sets_grids.specs.Regions.{AVAILABLE-AVAILABLE, VISIBLE-VISIBLE}
 use Rattle.sets_grids.specs.Grid.{GridOn}
+use Rattle.sets_grids.specs.Given.{Given}
 use Rattle.sets_grids.specs.Available.{makes, shownTo}
+use Rattle.sets_chains.specs.Alone.{After}
 use Rattle.sets_chains.specs.Chained.{sees, outs, ins}
 use Rattle.sets_chains.specs.Wide.{wideShown, wideFrom, wide-shows}
 
@@ -28,6 +30,22 @@ use Rattle.sets_chains.specs.Wide.{wideShown, wideFrom, wide-shows}
 -- every operation's chains are known
 pub record Chained (t : Table) (n : ℕ) (w : List ℕ) : Type 0 where
   pub outs : GridOn (makes t) AVAILABLE-AVAILABLE n (outs t) w
+  pub ins : GridOn (sees t) VISIBLE-VISIBLE n (ins t) w
+
+-- row a of n performs an availability operation
+pub record Maker (t : Table) (n a : ℕ) : Type 0 where
+  pub low : a < n
+  pub makes : makes t a ≡ true
+
+-- the availability chains from row a of n end at the members of z
+pub record ChainOf (t : Table) (n a : ℕ) (z : Set) : Type 0 where
+  pub low : a < n
+  pub ends : Rows n (availabilityChain t a) z
+
+-- what comes after availability operations, and the visibility operations that chains from those end at
+pub record Visibles (t : Table) (n : ℕ) (s w : List ℕ) : Type 0 where
+  pub given : Given t n s w
+  pub after : After t n w
   pub ins : GridOn (sees t) VISIBLE-VISIBLE n (ins t) w
 
 -- ---- laws

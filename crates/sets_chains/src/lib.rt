@@ -2,24 +2,21 @@
 // to which visibility operations, by themselves or as the last of a visibility chain. The agents of a chain share the domains of the first.
 ghost use mathlib.Core.Path.{_≡_};
 ghost use mathlib.Core.Bool.{true, false};
-ghost use Prim.Native.Nat.{ℕ, _+_, _≤_, _<_};
+ghost use Prim.Native.Nat.{ℕ, _+_, _≤_};
 ghost use lib.ListN.{length};
 ghost use Rattle.model.specs.Table.{Table};
-ghost use Rattle.model.specs.Availability.{availabilityChain};
 ghost use Rattle.model_placing.specs.Leads.{meets};
 ghost use Rattle.run.specs.Layout.{tableIn};
 ghost use Rattle.sets_of_rows.specs.Rows.{Rows};
 ghost use Rattle.sets_of_table.specs.Known.{Opened, WORDS};
 ghost use Rattle.sets_grids.specs.Happens.{Happening};
-ghost use Rattle.sets_grids.specs.Regions.{VISIBLE-VISIBLE};
-ghost use Rattle.sets_grids.specs.Grid.{GridOn};
 ghost use Rattle.sets_grids.specs.Given.{Given};
-ghost use Rattle.sets_grids.specs.Available.{makes, MadeAvailable};
+ghost use Rattle.sets_grids.specs.Available.{MadeAvailable};
 ghost use Rattle.sets_chains.specs.Alone.{wider, After, MadeOne};
-ghost use Rattle.sets_chains.specs.Chained.{sees, ins, Outs, Ins, MadeOuts, MadeIns};
+ghost use Rattle.sets_chains.specs.Chained.{Outs, Ins, MadeOuts, MadeIns};
 ghost use Rattle.sets_chains.specs.Filled.{MadeChains};
 ghost use Rattle.sets_chains.specs.Wide.{wideShown};
-ghost use Rattle.sets_chains.specs.Made.{Chained};
+ghost use Rattle.sets_chains.specs.Made.{Maker, ChainOf, Visibles};
 ghost use Rattle.sets_chains.specs.Availability.{Ready, MadeReady};
 use run::Run;
 use sets_of_rows::Set;
@@ -32,7 +29,7 @@ const BROADEST: usize = 4;
 
 // What a makes available, where nothing is chained: to agents that share its scope; and a visibility operation must share its own.
 fn make_available(t: &Run, n: usize, s: &[u64], a: usize, w: &mut [u64])
-    requires { ⌜ (a < n) × (makes (tableIn (now t) n) a ≡ true) × (tableIn (now t) n .chains ≡ false) × Given (tableIn (now t) n) n (now s) (now w) × After (tableIn (now t) n) n (now w) ⌝ }
+    requires { ⌜ Maker (tableIn (now t) n) n a × Ready (tableIn (now t) n) n false (now s) (now w) ⌝ }
     ensures { λ _. ⌜ MadeOne (tableIn (now (t .entry)) n) n a (now (w .entry)) (now (w .exit)) ⌝ }
 {
     let reach = sets_of_table::ask::reach(t, n, s, a);
@@ -108,7 +105,7 @@ fn chain_in(t: &Run, n: usize, s: &[u64], q: usize, w: &mut [u64])
 
 // The rows to which the last operation of one of the chains makes available: those of agents in the domain of its scope, if a's agent is.
 fn available_to(t: &Run, n: usize, s: &[u64], a: usize, chain: Set, w: &[u64]) -> Set
-    requires { ⌜ (a < n) × Given (tableIn (now t) n) n (now s) (now w) × After (tableIn (now t) n) n (now w) × Rows n (availabilityChain (tableIn (now t) n) a) chain ⌝ }
+    requires { ⌜ ChainOf (tableIn (now t) n) n a chain × Given (tableIn (now t) n) n (now s) (now w) × After (tableIn (now t) n) n (now w) ⌝ }
     ensures { λ x. ⌜ Rows n (meets (tableIn (now (t .entry)) n) a) x ⌝ }
 {
     let mut left = chain;
@@ -126,7 +123,7 @@ fn available_to(t: &Run, n: usize, s: &[u64], a: usize, chain: Set, w: &[u64]) -
 // In the domain of scope q of a's agent: what the chain's last operations make available to it, visibility operations make visible from
 // it, and those that their chains end with.
 fn visible_by(t: &Run, n: usize, s: &[u64], a: usize, chain: Set, q: usize, w: &[u64]) -> Set
-    requires { ⌜ (a < n) × (q ≤ 4) × Given (tableIn (now t) n) n (now s) (now w) × After (tableIn (now t) n) n (now w) × GridOn (sees (tableIn (now t) n)) VISIBLE-VISIBLE n (ins (tableIn (now t) n)) (now w) × Rows n (availabilityChain (tableIn (now t) n) a) chain ⌝ }
+    requires { ⌜ ChainOf (tableIn (now t) n) n a chain × (q ≤ 4) × Visibles (tableIn (now t) n) n (now s) (now w) ⌝ }
     ensures { λ x. ⌜ Rows n (wideShown (tableIn (now (t .entry)) n) n a q) x ⌝ }
 {
     let domain = sets_of_table::ask::sharing(t, n, s, a, q);
@@ -144,7 +141,7 @@ fn visible_by(t: &Run, n: usize, s: &[u64], a: usize, chain: Set, q: usize, w: &
 
 // What a makes available as the first of a chain, itself alone or more.
 fn make_available_by_chains(t: &Run, n: usize, s: &[u64], a: usize, w: &mut [u64])
-    requires { ⌜ (a < n) × (makes (tableIn (now t) n) a ≡ true) × (tableIn (now t) n .chains ≡ true) × Given (tableIn (now t) n) n (now s) (now w) × After (tableIn (now t) n) n (now w) × Chained (tableIn (now t) n) n (now w) ⌝ }
+    requires { ⌜ Maker (tableIn (now t) n) n a × Ready (tableIn (now t) n) n true (now s) (now w) ⌝ }
     ensures { λ _. ⌜ MadeOne (tableIn (now (t .entry)) n) n a (now (w .entry)) (now (w .exit)) ⌝ }
 {
     let chain = sets_of_rows::or(
@@ -185,7 +182,7 @@ fn prepare(t: &Run, n: usize, s: &[u64], chains: bool, w: &mut [u64])
 
 // What a makes available, as the first of a chain or alone.
 fn make(t: &Run, n: usize, s: &[u64], a: usize, chains: bool, w: &mut [u64])
-    requires { ⌜ (a < n) × (makes (tableIn (now t) n) a ≡ true) × (chains ≡ tableIn (now t) n .chains) × Ready (tableIn (now t) n) n chains (now s) (now w) ⌝ }
+    requires { ⌜ Maker (tableIn (now t) n) n a × Ready (tableIn (now t) n) n chains (now s) (now w) ⌝ }
     ensures { λ _. ⌜ MadeOne (tableIn (now (t .entry)) n) n a (now (w .entry)) (now (w .exit)) ⌝ }
 {
     if chains {

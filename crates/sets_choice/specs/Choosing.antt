@@ -6,13 +6,12 @@ use mathlib.Core.Logic.{⊎-elim}
 use Prim.Native.Nat.{ℕ, _+_, _-_, _*_, _≤_, _<_}
 use native.Mathlib.Omega.{arith}
 use lib.Dec.{ltb, eqb}
-use lib.ListN.{length}
 use lib.Bits.{bitAnd, bitXor, xor-lt, and-le-l}
 use borrow.Author.Tests.{ltb-true, lt-ltb, le-leb, eqb-true}
 use Rattle.finite.specs.Logic.{_and_, _or_, bool-ext, split, and-true, and-same, or-cases, or-left, or-right, not-so, not-both, not-in, not-out, which}
 use Rattle.finite.specs.Below.{anyBelow, any-in, any-out, any-off, any-not, least, least-is}
 use Rattle.model.specs.declared.Row.{Row}
-use Rattle.model.specs.Limits.{ROWS, WORK, LONGEST}
+use Rattle.model.specs.Limits.{ROWS, LONGEST}
 use Rattle.model.specs.Row.{access, plainRead, writes, touches, covers}
 use Rattle.model.specs.Table.{Table}
 use Rattle.model.specs.Scope.{follows}
@@ -34,7 +33,6 @@ use Rattle.sets_of_rows.specs.Member.{inSet}
 use Rattle.sets_of_rows.specs.Kept.{setAt}
 use Rattle.sets_of_rows.specs.Word.{bitOf-less}
 use Rattle.sets_of_rows.specs.Rows.{Rows, rows-at, rows-in, rows-and, rows-cut, rows-cong}
-use Rattle.sets_of_table.specs.Fit.{Fit}
 use Rattle.sets_of_table.specs.Says.{says-kind}
 use Rattle.sets_of_table.specs.Tested.{WRITES}
 use Rattle.sets_of_table.specs.Known.{Opened, says-rows}
@@ -42,8 +40,8 @@ use Rattle.sets_bytes.specs.Masks.{Mask, sharedBit, movedBit}
 use Rattle.sets_grids.specs.Regions.{SOME, LATER}
 use Rattle.sets_grids.specs.Grid.{grid-at}
 use Rattle.sets_grids.specs.Filling.{member-in}
-use Rattle.sets_grids.specs.Given.{Given}
-use Rattle.sets_grids.specs.Location.{Judging}
+use Rattle.sets_grids.specs.RowThat.{RowThat}
+use Rattle.sets_grids.specs.Location.{Judging, Judged}
 use Rattle.find_sources.specs.Choice.{missed, fitting}
 use Rattle.sets_overwritten.specs.Over.{always, moved-bit, lowest-bit, no-bit, cut-found, cut-none}
 
@@ -51,12 +49,8 @@ use Rattle.sets_overwritten.specs.Over.{always, moved-bit, lowest-bit, no-bit, 
 
 -- what the choice of the read y is made from: the writers before it, and location order
 pub record Choosing (t : Table) (n y : ℕ) (writers : Set) (w : List ℕ) : Type 0 where
-  pub fit : Fit t
-  pub rows : t .rows ≡ n
-  pub room : WORK ≤ length w
-  pub judging : Judging t n w
-  pub there : y < n
-  pub reader : access (t .row y) ≡ true
+  pub judged : Judged t n w
+  pub reader : RowThat access (t .row) n y
   pub earlier : Rows n (writtenBy t y) writers
 
 -- y is in SOME's row z
@@ -71,10 +65,6 @@ unfoldable pub candidateIn : Table → ℕ → ℕ → ℕ → Bool
 candidateIn t n y s = ltb s n and candidate t y s
 
 -- ---- laws: the writers before a row
-
-pub choosing : {t : Table} {n y : ℕ} {writers : Set} {s w : List ℕ} → Given t n s w → Judging t n w → y < n → access (t .row y) ≡ true
-    → Rows n (writtenBy t y) writers → Choosing t n y writers w
-choosing g j l a r = record { fit = g .opened .fit; rows = g .opened .rows; room = g .room; judging = j; there = l; reader = a; earlier = r }
 
 pub in-column : (w : List ℕ) (y z : ℕ) {x : Set} {b : Bool} → x ≡ setAt w (SOME + 2 * z) → b ≡ inSet x y → b ≡ inColumn w y z
 unfolding inColumn
@@ -146,15 +136,15 @@ module _ {t : Table} {n y s : ℕ} {writers : Set} {w : List ℕ} (c : Choosing 
   over-is : (z k : ℕ) → z < n → overBit t (always s) y z k ≡ overwritesBetween t y s z k
   unfolding overBit overwritesBetween
   over-is z k lz =
-      let r = c .rows in
-      ap₂ _and_ (sym (bit-is t (c .fit .sized) s z (nth t y k) (omega arith))) (sym (bit-is t (c .fit .sized) z y (nth t y k) (omega arith)))
+      let r = c .judged .fitting .rows in
+      ap₂ _and_ (sym (bit-is t (c .judged .fitting .fit .sized) s z (nth t y k) (omega arith))) (sym (bit-is t (c .judged .fitting .fit .sized) z y (nth t y k) (omega arith)))
 
   few : n ≤ ROWS
-  few = let r = c .rows in let f = c .fit .few in omega arith
+  few = let r = c .judged .fitting .rows in let f = c .judged .fitting .fit .few in omega arith
 
   -- those that follow s
   pub later-rows : {x z : Set} → x ≡ setAt w (LATER + 2 * s) → ((j : ℕ) → inSet z j ≡ (inSet writers j and inSet x j)) → Rows n (λ j. writtenBy t y j and follows t s j) z
-  later-rows e f = rows-and (c .earlier) (grid-at (c .judging .laters) ls e) f
+  later-rows e f = rows-and (c .earlier) (grid-at (c .judged .judging .laters) ls e) f
 
   pub later-hit : {x : Set} → Rows n (λ j. writtenBy t y j and follows t s j) x → anyBelow ROWS (inSet x) ≡ true → anyBelow n (between t y s) ≡ true
   unfolding between writtenBy
@@ -187,11 +177,11 @@ module _ {t : Table} {n y s : ℕ} {writers : Set} {w : List ℕ} (c : Choosing 
         let a = split h in
         let l = ltb-true z n (a .0) in
         let b = hidden z l (a .1) in
-        let r = c .rows in
+        let r = c .judged .fitting .rows in
         let k = any-out (λ k. before t s z (nth t y k) and before t z y (nth t y k)) LONGEST (b .1) in
         let v = split (k .2) in
         not-both (rows-in rows z l
-        ∙ and-true (and-true (b .0) (some-in t z y (c .fit .sized) (omega arith) (nth t y (k .0)) (v .1))) (some-in t s z (c .fit .sized) (omega arith) (nth t y (k .0)) (v .0))) e)
+        ∙ and-true (and-true (b .0) (some-in t z y (c .judged .fitting .fit .sized) (omega arith) (nth t y (k .0)) (v .1))) (some-in t s z (c .judged .fitting .fit .sized) (omega arith) (nth t y (k .0)) (v .0))) e)
 
     pub between-clear : (z m : ℕ) → z < n → Mask (overBit t (always s) y z) m → m ≤ 0 → betweenIn t n y s z ≡ false
     unfolding betweenIn
@@ -202,7 +192,7 @@ module _ {t : Table} {n y s : ℕ} {writers : Set} {w : List ℕ} (c : Choosing 
         not-both (over-is z (k .0) l ∙ k .2) (no-bit (overBit t (always s) y z) m mask e (k .0) (k .1)))
 
   pub some-rows : {x z : Set} → x ≡ setAt w (SOME + 2 * s) → ((j : ℕ) → inSet z j ≡ (inSet writers j and inSet x j)) → Rows n (λ j. writtenBy t y j and beforeSome t s j) z
-  some-rows e f = rows-and (c .earlier) (grid-at (c .judging .some) ls e) f
+  some-rows e f = rows-and (c .earlier) (grid-at (c .judged .judging .some) ls e) f
 
   pub between-hit : (z m : ℕ) → z < n → (writtenBy t y z and beforeSome t s z) ≡ true → Mask (overBit t (always s) y z) m → 0 < m → anyBelow n (between t y s) ≡ true
   unfolding between writtenBy
@@ -226,20 +216,20 @@ module _ {t : Table} {n y : ℕ} {writers : Set} {w : List ℕ} (c : Choosing t 
   each : (s : ℕ) → anyBelow LONGEST (notBeforeAt t y s) ≡ false → (k : ℕ) → k < t .row y .size → before t s y (nth t y k) ≡ true
   unfolding notBeforeAt touches
   each s none k l =
-      let r = c .rows in
-      let h = c .there in
-      let z = c .fit .sized y (omega arith) in
+      let r = c .judged .fitting .rows in
+      let h = c .reader .low in
+      let z = c .judged .fitting .fit .sized y (omega arith) in
       let o = any-off (notBeforeAt t y s) LONGEST none k (omega arith) in
       ⊎-elim (λ b. b) (λ b. not-both (and-true (inside-in (t .row y .start) (t .row y .size) (nth t y k) (omega arith) (omega arith)) (not-in b)) o) (which (before t s y (nth t y k)))
 
   some : 1 ≤ t .row y .size
-  some = let r = c .rows in let h = c .there in c .fit .filled y (omega arith) (c .reader)
+  some = let r = c .judged .fitting .rows in let h = c .reader .low in c .judged .fitting .fit .filled y (omega arith) (c .reader .is)
 
   -- so it covers y
   fits : (s : ℕ) → s < n → writes (t .row s) ≡ true → anyBelow LONGEST (notBeforeAt t y s) ≡ false → writerFits t y s ≡ true
   unfolding writerFits covers sharedAt touches
   fits s l wr none =
-      let r = c .rows in
+      let r = c .judged .fitting .rows in
       let z = some in
       let first = before-shared t s y (nth t y 0) (each s none 0 (omega arith)) in
       let last = before-shared t s y (nth t y (t .row y .size - 1)) (each s none (t .row y .size - 1) (omega arith)) in
@@ -261,7 +251,7 @@ module _ {t : Table} {n y : ℕ} {writers : Set} {w : List ℕ} (c : Choosing t 
   candidate-between s m b i mask zero e =
       let h = member-in s (c .earlier) i in
       let none = any-not (notBeforeAt t y s) LONGEST (no-bit (notBeforeAt t y s) m mask zero) in
-      fitting t y s _ refl _ refl (fits s (h .0) (split (h .1) .0) none) none b (e ∙ ap (λ (v : ℕ). anyBelow v (between t y s)) (sym (c .rows)))
+      fitting t y s _ refl _ refl (fits s (h .0) (split (h .1) .0) none) none b (e ∙ ap (λ (v : ℕ). anyBelow v (between t y s)) (sym (c .judged .fitting .rows)))
 
 -- ---- laws: the first
 
@@ -273,11 +263,11 @@ module _ {t : Table} {n y : ℕ} {writers : Set} {w : List ℕ} (c : Choosing t 
       not-so _ (λ h.
       let a = split h in
       let l = ltb-true s n (a .0) in
-      let r = c .rows in
+      let r = c .judged .fitting .rows in
       let z = some c in
       let u = split (split (a .1) .0) in
       let none = not-out (anyBelow LONGEST (notBeforeAt t y s)) (u .1) in
-      not-both (rows-in (c .earlier) s l ∙ and-true (split (split (u .0) .0) .1) (some-in t s y (c .fit .sized) (omega arith) (nth t y 0) (each c s none 0 (omega arith)))) e)
+      not-both (rows-in (c .earlier) s l ∙ and-true (split (split (u .0) .0) .1) (some-in t s y (c .judged .fitting .fit .sized) (omega arith) (nth t y 0) (each c s none 0 (omega arith)))) e)
 
   pub candidate-first : (s : ℕ) → s < n → s ≡ least ROWS (candidateIn t n y) → candidateIn t n y s ≡ true → s ≡ least n (candidate t y)
   unfolding candidateIn
@@ -285,7 +275,7 @@ module _ {t : Table} {n y : ℕ} {writers : Set} {w : List ℕ} (c : Choosing t 
 
   pub candidate-none : ROWS ≡ least ROWS (candidateIn t n y) → n ≡ least n (candidate t y)
   unfolding candidateIn
-  candidate-none e = let r = c .rows in let f = c .fit .few in sym (cut-none (candidate t y) n (omega arith) e)
+  candidate-none e = let r = c .judged .fitting .rows in let f = c .judged .fitting .fit .few in sym (cut-none (candidate t y) n (omega arith) e)
 
   pub candidate-on : (s : ℕ) (b : Bool) → s < n → b ≡ candidate t y s → b ≡ true → candidateIn t n y s ≡ true
   unfolding candidateIn

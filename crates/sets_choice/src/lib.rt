@@ -4,17 +4,16 @@ ghost use mathlib.Core.Bool.{true};
 ghost use Prim.Native.Nat.{_≤_, _<_};
 ghost use lib.ListN.{length, getD};
 ghost use Rattle.finite.specs.Below.{anyBelow, least};
-ghost use Rattle.model.specs.Limits.{WORK};
 ghost use Rattle.model.specs.Row.{access};
 ghost use Rattle.model.specs.Table.{rowOf};
 ghost use Rattle.model.specs.Fill.{notBeforeAt, writtenBy, between, candidate, choice, chosen};
 ghost use Rattle.run.specs.Layout.{rowsIn, tableIn};
 ghost use Rattle.sets_of_rows.specs.Member.{inSet};
 ghost use Rattle.sets_of_rows.specs.Rows.{Rows};
-ghost use Rattle.sets_of_table.specs.Fit.{Fit};
 ghost use Rattle.sets_bytes.specs.Masks.{Mask};
-ghost use Rattle.sets_grids.specs.Given.{Given};
-ghost use Rattle.sets_grids.specs.Location.{Judging};
+ghost use Rattle.finite.specs.Several.{TwoOf};
+ghost use Rattle.sets_grids.specs.RowThat.{RowThat};
+ghost use Rattle.sets_grids.specs.Location.{ToJudge, Judged};
 ghost use Rattle.find_sources.specs.Sources.{Listed};
 ghost use Rattle.find_sources.specs.Choice.{chosenFrom};
 ghost use Rattle.sets_choice.specs.Choosing.{Choosing};
@@ -34,7 +33,7 @@ struct Blank {
 
 // The writers that are ordered before y.
 fn writers_before(t: &Run, n: usize, s: &[u64], y: usize, w: &[u64]) -> Set
-    requires { ⌜ (y < n) × Given (tableIn (now t) n) n (now s) (now w) × Judging (tableIn (now t) n) n (now w) ⌝ }
+    requires { ⌜ (y < n) × ToJudge (tableIn (now t) n) n (now s) (now w) ⌝ }
     ensures { λ r. ⌜ Rows n (writtenBy (tableIn (now (t .entry)) n) y) r ⌝ }
 {
     let mut all = sets_of_rows::none();
@@ -53,7 +52,7 @@ fn writers_before(t: &Run, n: usize, s: &[u64], y: usize, w: &[u64]) -> Set
 
 // The bytes of y at which the source isn't ordered before it.
 fn missed(t: &Run, n: usize, source: usize, y: usize, w: &[u64]) -> u64
-    requires { ⌜ (source < n) × (y < n) × Fit (tableIn (now t) n) × (tableIn (now t) n .rows ≡ n) × (WORK ≤ length (now w)) × Judging (tableIn (now t) n) n (now w) ⌝ }
+    requires { ⌜ TwoOf n source y × Judged (tableIn (now t) n) n (now w) ⌝ }
     ensures { λ m. ⌜ Mask (notBeforeAt (tableIn (now (t .entry)) n) y source) m ⌝ }
 {
     let all = sets_bytes::shared(t, n, y, y);
@@ -114,7 +113,7 @@ fn first_candidate(t: &Run, n: usize, blank: Blank, w: &[u64]) -> usize
 
 // The source that the blank y must have: the initial value where no writer comes before it; n where it can have none.
 fn choice_of(t: &Run, n: usize, s: &[u64], y: usize, w: &[u64]) -> u16
-    requires { ⌜ (y < n) × (access (rowOf (rowsIn (now t)) y) ≡ true) × Given (tableIn (now t) n) n (now s) (now w) × Judging (tableIn (now t) n) n (now w) ⌝ }
+    requires { ⌜ RowThat access (rowOf (rowsIn (now t))) n y × ToJudge (tableIn (now t) n) n (now s) (now w) ⌝ }
     ensures { λ c. ⌜ c ≡ choice (tableIn (now (t .entry)) n) y ⌝ }
 {
     let writers = writers_before(t, n, s, y, w);
@@ -126,7 +125,7 @@ fn choice_of(t: &Run, n: usize, s: &[u64], y: usize, w: &[u64]) -> u16
 
 // The source of row i, which has `own`: its choice where it is a blank, else `own`.
 fn chosen_at(t: &Run, n: usize, s: &[u64], i: usize, own: u16, w: &[u64]) -> u16
-    requires { ⌜ (i < n) × Given (tableIn (now t) n) n (now s) (now w) × Judging (tableIn (now t) n) n (now w) ⌝ }
+    requires { ⌜ (i < n) × ToJudge (tableIn (now t) n) n (now s) (now w) ⌝ }
     ensures { λ c. ⌜ c ≡ chosenFrom (tableIn (now (t .entry)) n) i own ⌝ }
 {
     let plain = kept::get(s, sets_of_table::BY_KIND, kinds::PLAIN_READ as usize);
@@ -141,7 +140,7 @@ fn chosen_at(t: &Run, n: usize, s: &[u64], i: usize, own: u16, w: &[u64]) -> u16
 // Ruled out: one that takes for a blank a writer that was overwritten before it at any byte; one that leaves a blank that no writer
 // comes before.
 pub fn choose(t: &Run, n: usize, src: &[u16], s: &[u64], w: &[u64]) -> [u16; 128]
-    requires { ⌜ (n ≤ length (now src)) × Given (tableIn (now t) n) n (now s) (now w) × Judging (tableIn (now t) n) n (now w) ⌝ }
+    requires { ⌜ (n ≤ length (now src)) × ToJudge (tableIn (now t) n) n (now s) (now w) ⌝ }
     ensures { λ r. ⌜ Listed (chosen (tableIn (now (t .entry)) n) (λ i. getD (now (src .entry)) i 0)) n r ⌝ }
 {
     let mut list = [0u16; 128];

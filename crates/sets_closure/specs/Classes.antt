@@ -35,6 +35,11 @@ use Rattle.sets_grids.specs.Concerns.{NONE, Told, Concerns}
 
 -- ---- definitions
 
+-- c is a set of classes, and not the empty one
+pub record ClassSet (c : ℕ) : Type 0 where
+  pub some : 0 < c
+  pub low : c < 16
+
 -- row j has a class of c in its availability and visibility operations
 unfoldable pub meetsSome : Table → ℕ → ℕ → Bool
 meetsSome t c j = meets (classesOf (t .row j)) c

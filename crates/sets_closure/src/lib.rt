@@ -13,7 +13,7 @@ ghost use Rattle.sets_of_table.specs.Known.{WORDS, Opened};
 ghost use Rattle.sets_grids.specs.Grid.{Grid};
 ghost use Rattle.sets_grids.specs.Given.{Given};
 ghost use Rattle.sets_grids.specs.Concerns.{NONE, Told, Concerns};
-ghost use Rattle.sets_closure.specs.Classes.{HoldsTo, meetsSome};
+ghost use Rattle.sets_closure.specs.Classes.{ClassSet, HoldsTo, meetsSome};
 ghost use Rattle.sets_closure.specs.Widest.{widest, syncedBy};
 
 pub mod reach; // M6: inter-thread order from the nodes of a class set
@@ -74,7 +74,7 @@ fn meeting(t: &Run, n: usize, s: &[u64], c: usize) -> Set
 
 // The rows and moments that the class set c concerns.
 pub fn of_classes(t: &Run, n: usize, s: &[u64], ends: Set, c: usize) -> Concerned
-    requires { ⌜ (0 < c) × (c < 16) × Told (tableIn (now t) n) n ends × Opened (tableIn (now t) n) n (now s) ⌝ }
+    requires { ⌜ ClassSet c × Told (tableIn (now t) n) n ends × Opened (tableIn (now t) n) n (now s) ⌝ }
     ensures { λ k. ⌜ Concerns (tableIn (now (t .entry)) n) n c ends k ⌝ }
 {
     let holds = holding(s, c);
@@ -101,7 +101,7 @@ fn shared(b: bool, x: u8, y: u8) -> u8
 // Whether no class beside c is in the semantics of every row that holds all of c. If one is, the class set with it has the same holders,
 // concerns no fewer moments, and so orders no less. Where no row holds all of c, every class is.
 pub fn is_widest(t: &Run, n: usize, s: &[u64], c: usize) -> bool
-    requires { ⌜ (0 < c) × (c < 16) × Opened (tableIn (now t) n) n (now s) ⌝ }
+    requires { ⌜ ClassSet c × Opened (tableIn (now t) n) n (now s) ⌝ }
     ensures { λ b. ⌜ b ≡ widest (tableIn (now (t .entry)) n) c ⌝ }
 {
     let mut common = 15u8;

@@ -74,6 +74,7 @@ passing t m g b = anyBelow (t .rows) (passingBy t m g b)
 
 -- up the page, with the rows from m on done: by agent, what its control barriers pass to; and the rows of the grid
 pub record Passing (t : Table) (n m : ℕ) (by w : List ℕ) : Type 0 where
+  pub room : 64 ≤ length by
   pub agents : (g : ℕ) → g < 32 → Rows n (passing t m g) (nth by 0 g)
   pub done : (a : ℕ) → m ≤ a → a < n → Rows n (passedBy t a) (nth w PASSED a)
 
@@ -266,7 +267,7 @@ pub pass-turn : {t : Table} {n : ℕ} {s : List ℕ} → Opened t n s → {by by
 unfolding joined
 pass-turn {t} {n} {s} o {by} {by′} {w} {w′} a g own all r x b l e inv h p q f k m z =
     record {
-      to = record { agents = agents; done = λ i u v. done i u v (ℕ-discrete i a) };
+      to = record { room = let d = inv .room in omega (arith, p .frame .len); agents = agents; done = λ i u v. done i u v (ℕ-discrete i a) };
       frame = within-widen PASSED PASSED-END (omega arith) (omega (arith, low)) (z .frame);
       agents = within-widen 0 64 (omega arith) (omega (arith, agent)) (p .frame);
     }
@@ -315,10 +316,11 @@ blank (suc n) zero = refl
 blank (suc n) (suc k) = blank n k
 
 -- it begins with nothing
-pub pass-begin : (t : Table) (n : ℕ) {by : List ℕ} (w : List ℕ) → t .rows ≡ n → ((k : ℕ) → getD by k 0 ≡ 0) → Passing t n n by w
+pub pass-begin : (t : Table) (n : ℕ) {by : List ℕ} (w : List ℕ) → t .rows ≡ n → 64 ≤ length by → ((k : ℕ) → getD by k 0 ≡ 0) → Passing t n n by w
 unfolding passing passingBy setAt
-pass-begin t n {by} w r e =
+pass-begin t n {by} w r room e =
     record {
+      room = room;
       agents = λ g l. record { is = λ j. none-in (setAt by (0 + 2 * g)) (e (0 + 2 * g)) (e (0 + 2 * g + 1)) j ∙ sym (and-false-right (ltb j n) _ (none g j)) };
       done = λ a u v. absurd (omega arith);
     }

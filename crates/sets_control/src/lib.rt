@@ -79,8 +79,7 @@ fn passes_to(t: &Run, n: usize, s: &[u64], c: usize) -> Set
 // Row a, where `passing` has by agent what the control barriers below it pass to: a control barrier joins them, and a barrier gets what
 // they pass to.
 fn pass_row(t: &Run, n: usize, s: &[u64], a: usize, passing: &mut [u64], w: &mut [u64])
-    requires { ⌜ (a < n) × (64 ≤ length (now passing)) × Given (tableIn (now t) n) n (now s) (now w)
-        × Passing (tableIn (now t) n) n (a + 1) (now passing) (now w) ⌝ }
+    requires { ⌜ (a < n) × Given (tableIn (now t) n) n (now s) (now w) × Passing (tableIn (now t) n) n (a + 1) (now passing) (now w) ⌝ }
     ensures { λ _. ⌜ Passes (tableIn (now (t .entry)) n) n a (now (passing .entry)) (now (passing .exit)) (now (w .entry)) (now (w .exit)) ⌝ }
 {
     let agent = fields::agent(t, a);

@@ -7,11 +7,12 @@ use Prim.Native.Nat.{ℕ, _+_, _*_, _≤_, _<_}
 use native.Mathlib.Omega.{arith}
 use native.Mathlib.Numerals.{add-one}
 use native.Mathlib.Decide.{decLt, ℕ-discrete}
+use lib.ListN.{length}
 use lib.Dec.{eqb, ltb}
 use borrow.Author.Tests.{eqb-true, eq-eqb, ne-eqb, ltb-true, lt-ltb, le-ltb}
 use Rattle.finite.specs.Logic.{_and_, _or_, bool-ext, split, and-true, and-on, and-false-left, or-off, which}
 use Rattle.finite.specs.Below.{anyBelow}
-use Rattle.model.specs.Limits.{ROWS}
+use Rattle.model.specs.Limits.{ROWS, WORK}
 use Rattle.model.specs.Row.{reads, writes, overlap}
 use Rattle.model.specs.Table.{Table}
 use Rattle.model.specs.Scope.{follows}
@@ -30,14 +31,26 @@ use Rattle.sets_of_rows.specs.Family.{nth}
 use Rattle.sets_of_rows.specs.Rows.{Rows, rows-in, rows-cong, rows-or}
 use Rattle.sets_of_rows.specs.Walk.{Walk, walk-begin, walk-turn, walk-end, walk-in}
 use Rattle.sets_of_table.specs.Tested.{WRITES}
-use Rattle.sets_of_table.specs.Known.{Opened, says-rows}
+use Rattle.sets_of_table.specs.Known.{WORDS, Opened, says-rows}
 use Rattle.sets_of_table.specs.Ask.{few}
+use Rattle.find_axioms.specs.Sources.{sourceIn}
 use Rattle.sets_grids.specs.Regions.{LATER, SOME}
 use Rattle.sets_grids.specs.Grid.{Grid, MadeGrid, grid-kept, grid-cong}
 use Rattle.sets_grids.specs.Filling.{member-in}
 use Rattle.sets_grids.specs.Location.{Judging}
 
 -- ---- definitions
+
+-- each of n rows has a source, and a read's is a row or the initial value
+pub record Sources (t : Table) (n : ℕ) (src : List ℕ) : Type 0 where
+  pub each : n ≤ length src
+  pub sourced : Sourced t (sourceIn src)
+
+-- room for n rows in the sets and in the work area
+pub record Room (n : ℕ) (s w : List ℕ) : Type 0 where
+  pub few : n ≤ ROWS
+  pub sets : WORDS ≤ length s
+  pub work : WORK ≤ length w
 
 -- the first m rows of EDGE have what SOME and LATER have; no word outside EDGE changed
 pub record Ordered (m : ℕ) (w u : List ℕ) : Type 0 where

@@ -6,12 +6,9 @@ ghost use Rattle.model.specs.Edge.{edge};
 ghost use Rattle.run.specs.Layout.{tableIn};
 ghost use Rattle.work_area.specs.Regions.{EDGE, EDGE-END};
 ghost use Rattle.find_axioms.specs.Sources.{sourceIn};
-ghost use Rattle.sets_of_table.specs.Known.{WORDS};
 ghost use Rattle.sets_grids.specs.Grid.{MadeGrid};
-ghost use Rattle.sets_grids.specs.Given.{Given};
-ghost use Rattle.sets_grids.specs.Location.{Judging};
-ghost use Rattle.model_placing.specs.Judge.{Sourced};
-ghost use Rattle.sets_edges.specs.Edges.{Ordered, Reads};
+ghost use Rattle.sets_grids.specs.Location.{ToJudge};
+ghost use Rattle.sets_edges.specs.Edges.{Sources, Room, Ordered, Reads};
 use run::Run;
 use sets_of_rows::kept;
 
@@ -33,7 +30,7 @@ fn put_orders(n: usize, w: &mut [u64])
 // Edges 3 and 4 of the reader y: from its source, and to what follows it; from the initial value, to each writer that shares bytes.
 // Ruled out: one that leaves out the edge from its source.
 fn put_reads(n: usize, s: &[u64], source: usize, y: usize, w: &mut [u64])
-    requires { ⌜ (y < n) × (n ≤ ROWS) × (WORDS ≤ length (now s)) × (WORK ≤ length (now w)) ⌝ }
+    requires { ⌜ (y < n) × Room n (now s) (now w) ⌝ }
     ensures { λ _. ⌜ Reads n (now (s .entry)) source y (now (w .entry)) (now (w .exit)) ⌝ }
 {
     if source < n {
@@ -51,8 +48,7 @@ fn put_reads(n: usize, s: &[u64], source: usize, y: usize, w: &mut [u64])
 
 // EDGE, with the sources in `src`.
 pub fn fill_edges(t: &Run, n: usize, src: &[u16], s: &[u64], w: &mut [u64])
-    requires { ⌜ (n ≤ length (now src)) × Sourced (tableIn (now t) n) (sourceIn (now src)) × Given (tableIn (now t) n) n (now s) (now w)
-        × Judging (tableIn (now t) n) n (now w) ⌝ }
+    requires { ⌜ Sources (tableIn (now t) n) n (now src) × ToJudge (tableIn (now t) n) n (now s) (now w) ⌝ }
     ensures { λ _. ⌜ MadeGrid EDGE EDGE-END EDGE n (edge (tableIn (now (t .entry)) n) (sourceIn (now (src .entry)))) (now (w .entry)) (now (w .exit)) ⌝ }
 {
     put_orders(n, w);

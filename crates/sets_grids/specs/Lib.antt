@@ -1,4 +1,5 @@
 pub mod Regions
+pub mod RowThat
 pub mod Grid
 pub mod Filling
 pub mod Union

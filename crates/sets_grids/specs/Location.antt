@@ -14,6 +14,7 @@ use Rattle.sets_grids.specs.Grid.{Grid, grid-holds}
 use Rattle.sets_grids.specs.Happens.{happensRows}
 use Rattle.sets_grids.specs.Available.{Available}
 use Rattle.sets_grids.specs.Hosted.{hostedBy}
+use Rattle.sets_grids.specs.Given.{Given, Fitting, fitting}
 
 -- ---- definitions
 
@@ -23,6 +24,11 @@ pub record Locating (t : Table) (n : ℕ) (w : List ℕ) : Type 0 where
   pub available : Available t n w
   pub hosted : Grid HOSTED n (hostedBy t) w
   pub overlapping : Grid OVERLAP n (overlaps t) w
+
+-- the same, with the table and its sets
+pub record ToLocate (t : Table) (n : ℕ) (s w : List ℕ) : Type 0 where
+  pub given : Given t n s w
+  pub locating : Locating t n w
 
 pub record MadeLocation (t : Table) (n : ℕ) (w u : List ℕ) : Type 0 where
   pub some : Grid SOME n (beforeSome t) u
@@ -37,7 +43,19 @@ pub record Judging (t : Table) (n : ℕ) (w : List ℕ) : Type 0 where
   pub location : Cube LOCATION PAIRS PAIR n (beforeNth t) w
   pub overlapping : Grid OVERLAP n (overlaps t) w
 
+-- the same, with the table and its sets; with the table alone
+pub record ToJudge (t : Table) (n : ℕ) (s w : List ℕ) : Type 0 where
+  pub given : Given t n s w
+  pub judging : Judging t n w
+
+pub record Judged (t : Table) (n : ℕ) (w : List ℕ) : Type 0 where
+  pub fitting : Fitting t n w
+  pub judging : Judging t n w
+
 -- ---- laws
+
+pub judged : {t : Table} {n : ℕ} {s w : List ℕ} → ToJudge t n s w → Judged t n w
+judged g = record { fitting = fitting (g .given); judging = g .judging }
 
 -- in the words of the other engine
 pub judging-placed : {t : Table} {n : ℕ} {w : List ℕ} → n ≤ ROWS → Judging t n w → Placed t n w

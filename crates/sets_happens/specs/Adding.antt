@@ -21,6 +21,7 @@ use Rattle.sets_of_rows.specs.Kept.{setAt, set-kept, Stored, joined}
 use Rattle.sets_of_rows.specs.Family.{nth}
 use Rattle.sets_of_rows.specs.Rows.{Rows, rows-in}
 use Rattle.sets_of_rows.specs.Walk.{Walk, walk-begin, walk-turn, walk-end, walk-in}
+use Rattle.sets_grids.specs.Regions.{AVAILABLE-AT, AVAILABLE-VISIBLE, AVAILABLE-AVAILABLE}
 use Rattle.sets_grids.specs.Grid.{Grid, AddedGrid}
 
 -- ---- definitions
@@ -37,6 +38,12 @@ pub record Puts (base i : ℕ) (z : ℕ → Bool) (w u : List ℕ) : Type 0 wher
 -- no row has any
 pub record Empty (base : ℕ) (w : List ℕ) : Type 0 where
   pub is : (k j : ℕ) → k < ROWS → inSet (nth w base k) j ≡ false
+
+-- no availability operation has any
+pub record NoneAvailable (w : List ℕ) : Type 0 where
+  pub rows : Empty AVAILABLE-AT w
+  pub visibles : Empty AVAILABLE-VISIBLE w
+  pub availables : Empty AVAILABLE-AVAILABLE w
 
 -- each member of x below m got what f says
 pub record AddedTo (base : ℕ) (x : Set) (f : ℕ → ℕ → Bool) (w : List ℕ) (m : ℕ) (u : List ℕ) : Type 0 where

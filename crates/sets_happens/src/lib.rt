@@ -12,11 +12,11 @@ ghost use Rattle.sets_of_rows.specs.declared.Set.{Set};
 ghost use Rattle.sets_of_rows.specs.Member.{inSet};
 ghost use Rattle.sets_of_rows.specs.Rows.{Rows};
 ghost use Rattle.sets_of_table.specs.Known.{Opened};
-ghost use Rattle.sets_grids.specs.Regions.{HAPPENS, HAPPENS-END, AVAILABLE-AT, AVAILABLE-VISIBLE, AVAILABLE-AVAILABLE, VISIBLE-VISIBLE, REACH-AT};
+ghost use Rattle.sets_grids.specs.Regions.{HAPPENS, HAPPENS-END, AVAILABLE-AT, VISIBLE-VISIBLE, REACH-AT};
 ghost use Rattle.sets_grids.specs.Grid.{MadeGrid};
 ghost use Rattle.sets_grids.specs.Given.{Given};
 ghost use Rattle.sets_happens.specs.Adds.{Reached, MadeProgram, AddsAt, AddsAvailable, AddsVisible};
-ghost use Rattle.sets_happens.specs.Adding.{Empty};
+ghost use Rattle.sets_happens.specs.Adding.{Empty, NoneAvailable};
 ghost use Rattle.sets_happens.specs.Program.{behind, PutsAvailable, MadeAvailables};
 ghost use Rattle.sets_happens.specs.Behind.{byFirst, fromAt, JoinsAvailable, JoinsVisible};
 use run::Run;
@@ -64,7 +64,7 @@ fn put_rows(t: &Run, n: usize, s: &[u64], w: &mut [u64])
 
 // Program order of every availability operation.
 fn put_availables(t: &Run, n: usize, s: &[u64], w: &mut [u64])
-    requires { ⌜ Given (tableIn (now t) n) n (now s) (now w) × Empty AVAILABLE-AT (now w) × Empty AVAILABLE-VISIBLE (now w) × Empty AVAILABLE-AVAILABLE (now w) ⌝ }
+    requires { ⌜ Given (tableIn (now t) n) n (now s) (now w) × NoneAvailable (now w) ⌝ }
     ensures { λ _. ⌜ MadeAvailables (tableIn (now (t .entry)) n) n (now (w .entry)) (now (w .exit)) ⌝ }
 {
     let mut left = sets_of_table::rows(s, sets_of_table::AVAILABLE);

@@ -267,7 +267,7 @@ part-sort l z v a b c =
     let k = split (u .0) in
     and-true (and-true (and-true (p .0) (q .1)) (and-true (p .0) (and-true (k .0) (and-true (k .1) (u .1))))) (r .1))
 
-module _ {t : Table} {n : ℕ} {s w : List ℕ} (o : Opened t n s) (lc : Locating t n w) (x y : ℕ) (l : x < n) (m : y < n) (pr : Pair t x y) {g : Available}
+module _ {t : Table} {n : ℕ} {s w : List ℕ} (o : Opened t n s) (lc : Locating t n w) (x y : ℕ) (l : x < n) (m : y < n) (pr : Pair t n x y) {g : Available}
     (h : Grasps t n x g) where
   there : x < t .rows
   there = let e = o .rows in omega arith
@@ -324,7 +324,7 @@ module _ {t : Table} {n : ℕ} {s w : List ℕ} (o : Opened t n s) (lc : Locatin
           (λ v.
           e v ∙ ap₂ _and_ (r .is v) (up .widely .is v)
           ∙ wide-sort (ltb v n) (z v) (visWide t (t .row x .class) v) (eqb (t .row v .agent) (t .row y .agent)) (ltb v y))
-          ∙ on-rows _ ∙ sym (wide-after t x y there last-there (o .fit .one) (pr .first) (pr .second) (pr .same) z)
+          ∙ on-rows _ ∙ sym (wide-after t x y there last-there (o .fit .one) (pr .first .is) (pr .second .is) (pr .same) z)
 
       plain-any : (z p : ℕ → Bool) (zs : Set) → Rows n z zs → ((v : ℕ) → p v ≡ ((inSet zs v and inSet plain v) and sharedBit t x v k))
           → anyBelow ROWS p ≡ partSeen t y (nth t x k) z
@@ -334,7 +334,7 @@ module _ {t : Table} {n : ℕ} {s w : List ℕ} (o : Opened t n s) (lc : Locatin
           (λ v.
           e v ∙ ap₂ _and_ (ap₂ _and_ (r .is v) (up .plainly .is v)) (byte-is v)
           ∙ part-sort (ltb v n) (z v) (visPlain t x v) (eqb (t .row v .agent) (t .row y .agent)) (leb v y) (touches (t .row v) (nth t x k)))
-          ∙ on-rows _ ∙ sym (part-rows t x y there last-there (o .fit .one) (pr .first) (pr .second) (pr .same) (nth t x k) z)
+          ∙ on-rows _ ∙ sym (part-rows t x y there last-there (o .fit .one) (pr .first .is) (pr .second .is) (pr .same) (nth t x k) z)
 
       strong-any : (z : Set) → ((j : ℕ) → inSet z j ≡ (inSet (g .by) j and inSet plain j))
           → anyBelow ROWS (byteOf t x z k) ≡ partSeen t y (nth t x k) (strongTo t (shownTo t) x)

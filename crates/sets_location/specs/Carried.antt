@@ -369,10 +369,11 @@ module _ (t : Table) (n x : ℕ) where
       by-is g r l m (yes i) (no k) = by-other g r l m (λ e f. k f)
       by-is g r l m (no i) k = by-other g r l m (λ e f. i e)
 
-  pub carry-end : {made : List ℕ} → x < t .rows → Carrying t n x 4 made → Carried t n x made
+  pub carry-end : {made : List ℕ} → x < t .rows → 512 ≤ length made → Carrying t n x 4 made → Carried t n x made
   unfolding carriedUp
-  carry-end {made} there c =
+  carry-end {made} there room c =
       record {
+        room = room;
         to = λ g r l m. rows-cong (λ i k. up (Leads.meets t) g r i m) (c .to g r l m);
         by = λ g r l m. rows-cong (λ i k. up (shownTo t) g r i m) (c .by g r l m);
       }

@@ -33,11 +33,11 @@ use Rattle.sets_of_table.specs.Tested.{ACCESS, AVAILABLE}
 use Rattle.sets_of_table.specs.Sorted.{PLAIN}
 use Rattle.sets_of_table.specs.Known.{Opened, says-rows}
 use Rattle.sets_grids.specs.Regions.{SOME, SOME-END}
-use Rattle.sets_grids.specs.Given.{Given, given-kept, given-few}
+use Rattle.sets_grids.specs.Given.{Given, given-few}
 use Rattle.sets_grids.specs.Available.{makes}
-use Rattle.sets_grids.specs.Location.{Locating, MadeLocation}
+use Rattle.sets_grids.specs.Location.{Locating, ToLocate, MadeLocation}
 use Rattle.sets_location.specs.Adds.{AddsRow, placeOf, Empty, Widely, Carried}
-use Rattle.sets_location.specs.Placed.{locating-kept}
+use Rattle.sets_location.specs.Put.{locate-kept}
 
 -- ---- definitions
 
@@ -46,8 +46,7 @@ pub record Filled (t : Table) (n x : ℕ) (s w u : List ℕ) : Type 0 where
   pub some : (i : ℕ) → i < n → Rows n (λ j. leb x i and beforeSome t i j) (nth u SOME i)
   pub pair : (i j k : ℕ) → i < n → j < n → k < LONGEST → bit u (placeOf i j k) ≡ (leb x i and beforeNth t i j k)
   pub frame : Within SOME LOCATION-END w u
-  pub given : Given t n s u
-  pub locating : Locating t n u
+  pub from : ToLocate t n s u
 
 -- ---- laws: at the end of the page
 
@@ -60,7 +59,7 @@ zero-at m k a e l = ap (λ (b : List ℕ). getD b k 0) e ∙ getD-replicate m k 
 
 pub carried-none : {t : Table} {n : ℕ} {s made : List ℕ} → Opened t n s → made ≡ replicate 512 0 → (length made ≡ 512) × Carried t n n made
 carried-none {t} {n} {s} {made} o e =
-    (long, record { to = λ g q l m. rows-cong (λ i k. sym (off g q _)) (rows-none (empty (g * 8 + q) (omega arith))); by = λ g q l m. rows-cong (λ i k. sym (off g q _)) (rows-none (empty (g * 8 + 4 + q) (omega arith))) })
+    (long, record { room = omega (arith, long); to = λ g q l m. rows-cong (λ i k. sym (off g q _)) (rows-none (empty (g * 8 + q) (omega arith))); by = λ g q l m. rows-cong (λ i k. sym (off g q _)) (rows-none (empty (g * 8 + 4 + q) (omega arith))) })
   where
     long : length made ≡ 512
     long = ap length e ∙ length-replicate {A = ℕ} 512 0
@@ -82,8 +81,7 @@ filled-begin {t} {n} {s} {w} {u} {v} g lc e f = (
         ∙ bit-zeros-in u LOCATION (LOCATION-END - LOCATION) (placeOf i j k) (omega (arith, long)) (omega arith) (omega (arith, given-few g))
         ∙ sym (and-false-left (leb n i) _ (lt-leb n i l));
     frame = within-refl SOME LOCATION-END v;
-    given = given-kept all g;
-    locating = locating-kept (given-few g) all lc;
+    from = locate-kept all (record { given = g; locating = lc });
   },
 )
   where
@@ -137,8 +135,7 @@ filled-placed {t} {n} {x} {s} {w} {u} {v} l f a =
       some = λ i m. some-is i m (ℕ-discrete i x);
       pair = λ i j k m o p. pair-is i j k m o p (ℕ-discrete i x);
       frame = within-trans (f .frame) (a .frame);
-      given = given-kept (a .frame) (f .given);
-      locating = locating-kept (given-few (f .given)) (a .frame) (f .locating);
+      from = locate-kept (a .frame) (f .from);
     }
   where
     here : (j : ℕ) → Dec (j < n) → inSet (nth v SOME x) j ≡ (ltb j n and (leb x x and anyBelow LONGEST (beforeNth t x j)))
@@ -152,7 +149,7 @@ filled-placed {t} {n} {x} {s} {w} {u} {v} l f a =
         subst (λ (k : ℕ). Rows n (λ j. leb x k and anyBelow LONGEST (beforeNth t k j)) (nth v SOME k)) (sym e) (record { is = λ j. here j (decLt j n) })
     some-is i m (no e) =
         rows-cong (λ j k. ap (λ (b : Bool). b and anyBelow LONGEST (beforeNth t i j)) (leb-up x i e))
-        (rows-at (a .other-some i (let b = given-few (f .given) in omega arith) e) (f .some i m))
+        (rows-at (a .other-some i (let b = given-few (f .from .given) in omega arith) e) (f .some i m))
 
     pair-is : (i j k : ℕ) → i < n → j < n → k < LONGEST → Dec (i ≡ x) → bit v (placeOf i j k) ≡ (leb x i and beforeNth t i j k)
     pair-is i j k m o p (yes e) =
@@ -176,8 +173,7 @@ filled-skip {t} {n} {x} {s} {w} {u} off f =
       some = λ i m. rows-cong (λ j k. same i (ℕ-discrete i x) (anyBelow LONGEST (beforeNth t i j)) (λ e. none i j e)) (f .some i m);
       pair = λ i j k m o p. f .pair i j k m o p ∙ same i (ℕ-discrete i x) (beforeNth t i j k) (λ e. one i j k e);
       frame = f .frame;
-      given = f .given;
-      locating = f .locating;
+      from = f .from;
     }
   where
     one : (i j k : ℕ) → i ≡ x → beforeNth t i j k ≡ false
@@ -200,7 +196,7 @@ filled-left {t} {n} {x} {s} {w} e off f = subst (λ (z : List ℕ). Filled t n x
 -- a row that is no atomic or barrier with an availability operation makes nothing available further up
 pub carried-skip : {t : Table} {n x : ℕ} {made : List ℕ} → x < t .rows → (not (plain (t .row x)) and avails (t .row x)) ≡ false → Carried t n (x + 1) made → Carried t n x made
 carried-skip {t} {n} {x} {made} l off c =
-    record { to = λ g q k m. rows-cong (λ i o. up g q _) (c .to g q k m); by = λ g q k m. rows-cong (λ i o. up g q _) (c .by g q k m) }
+    record { room = c .room; to = λ g q k m. rows-cong (λ i o. up g q _) (c .to g q k m); by = λ g q k m. rows-cong (λ i o. up g q _) (c .by g q k m) }
   where
     up : (g q : ℕ) (z : ℕ → Bool) → kept t g q (x + 1) z ≡ kept t g q x z
     up g q z = ap (λ (m : ℕ). kept t g q m z) (add-one x) ∙ sym (kept-skip t g q x z l off)
@@ -236,7 +232,7 @@ filled-end {t} {n} all f =
       some = record { row = λ i l. rows-cong (λ j m. and-on (leb 0 i) (beforeSome t i j) (le-leb 0 i (omega arith))) (f .some i l) };
       location =
           record {
-            fits = let b = given-few (f .given) in omega arith;
+            fits = let b = given-few (f .from .given) in omega arith;
             cell = λ i j k l m o. f .pair i j k l m o ∙ and-on (leb 0 i) (beforeNth t i j k) (le-leb 0 i (omega arith));
           };
       frame = within-trans all (f .frame);

@@ -3,14 +3,14 @@ use mathlib.Core.Path.{_≡_, refl, sym, ap, ap₂, _∙_}
 use mathlib.Core.Bool.{Bool, true, false, not}
 use mathlib.Core.Logic.{⊎-elim}
 use mathlib.Core.List.{List}
-use Prim.Native.Nat.{ℕ, _+_, _*_, _≤_, _<_}
+use Prim.Native.Nat.{ℕ, _+_, _*_, _<_}
 use native.Mathlib.Omega.{arith}
 use lib.Dec.{eqb}
 use borrow.Author.Tests.{eqb-true, le-leb}
 use Rattle.finite.specs.Logic.{_and_, _or_, split, and-true, and-on, and-false-left, and-false-right, or-cases, or-left, or-right, or-none, or-assoc, which}
 use Rattle.finite.specs.Logic.{not-both, not-so, not-in, bool-ext}
 use Rattle.finite.specs.Below.{anyBelow, any-in, any-out, any-cong}
-use Rattle.model.specs.Limits.{ROWS, LONGEST}
+use Rattle.model.specs.Limits.{LONGEST}
 use Rattle.model.specs.Row.{access, writes, nonPrivate, touches}
 use Rattle.model.specs.Table.{Table}
 use Rattle.model.specs.Location.{common}
@@ -19,8 +19,8 @@ use Rattle.model.specs.Race.{nth}
 use Rattle.model.specs.Edge.{beforeNth}
 use Rattle.model_laws.specs.PairLaws.{eqb-swap, overlap-is, inside-out}
 use Rattle.bits.specs.Bit.{bit}
-use Rattle.bits.specs.Within.{Within, within-trans}
-use Rattle.work_area.specs.Regions.{LOCATION-END, OVERLAP}
+use Rattle.bits.specs.Within.{within-trans}
+use Rattle.work_area.specs.Regions.{OVERLAP}
 use Rattle.work_area.specs.State.{overlaps}
 use Rattle.model_placing.specs.Leads.{meets, shows}
 use Rattle.model_placing.specs.Elements.{shews, visible-is}
@@ -36,24 +36,13 @@ use Rattle.sets_of_table.specs.Tested.{WRITES, PUBLIC}
 use Rattle.sets_of_table.specs.Known.{REFERENCE, Opened, sameName, says-rows}
 use Rattle.sets_bytes.specs.Masks.{sharedBit}
 use Rattle.sets_grids.specs.Regions.{SOME}
-use Rattle.sets_grids.specs.Grid.{grid-at, grid-kept, grid-on-kept}
+use Rattle.sets_grids.specs.Grid.{grid-at}
 use Rattle.sets_grids.specs.Filling.{member-in}
 use Rattle.sets_grids.specs.Available.{shownTo}
 use Rattle.sets_grids.specs.Location.{Locating}
 use Rattle.sets_location.specs.Told.{ToldTo}
 use Rattle.sets_location.specs.Maybe.{Maybes}
 use Rattle.sets_location.specs.Adds.{AddsRow, placeOf, wholeBytes, partBytes, partsOf, Over, Targets, PublicWrite}
-
--- ---- laws: what location order is made from stays
-
-pub locating-kept : {t : Table} {n : ℕ} {w u : List ℕ} → n ≤ ROWS → Within SOME LOCATION-END w u → Locating t n w → Locating t n u
-locating-kept l f lc =
-    record {
-      happening = grid-kept (λ h. omega arith) f (lc .happening);
-      available = record { to = grid-on-kept (λ h. omega arith) f (lc .available .to); by = grid-on-kept (λ h. omega arith) f (lc .available .by) };
-      hosted = grid-kept (λ h. omega arith) f (lc .hosted);
-      overlapping = grid-kept (λ h. omega arith) f (lc .overlapping);
-    }
 
 -- ---- laws: what is added to a row
 
@@ -166,6 +155,7 @@ module _ {t : Table} {n : ℕ} {s : List ℕ} (o : Opened t n s) (x : ℕ) (lx :
     unfolding overlaps
     told-over =
         record {
+          here = lx;
           low = λ y h. member-in y shares (split (sym (e y) ∙ h) .1) .0;
           shares = λ y h. split (member-in y shares (split (sym (e y) ∙ h) .1) .1) .0;
         }
@@ -204,6 +194,7 @@ module _ {t : Table} {n : ℕ} {s : List ℕ} (o : Opened t n s) (x : ℕ) (lx :
     unfolding overlaps
     write-over =
         record {
+          here = lx;
           low = λ y h. member-in y (p .shares) (split (sym (e8 y) ∙ h) .1) .0;
           shares = λ y h. split (member-in y (p .shares) (split (sym (e8 y) ∙ h) .1) .1) .0;
         }
@@ -267,6 +258,7 @@ module _ {t : Table} {n : ℕ} {s : List ℕ} (o : Opened t n s) (x : ℕ) (lx :
       pub write-targets : Targets t n x rest
       write-targets =
           record {
+            here = record { low = lx; is = is };
             low = λ y h. named y (asked-target y h) .0;
             accesses = λ y h. named y (asked-target y h) .1;
             same = λ y h. named y (asked-target y h) .2;

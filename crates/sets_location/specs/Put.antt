@@ -32,7 +32,8 @@ use Rattle.sets_of_rows.specs.Walk.{Walk, walk-begin, walk-turn, walk-end, walk
 use Rattle.sets_of_table.specs.Fit.{Fit}
 use Rattle.sets_grids.specs.Regions.{SOME}
 use Rattle.sets_grids.specs.Grid.{grid-kept, grid-on-kept}
-use Rattle.sets_grids.specs.Location.{Locating}
+use Rattle.sets_grids.specs.Given.{given-kept, given-few}
+use Rattle.sets_grids.specs.Location.{ToLocate}
 use Rattle.sets_bytes.specs.Masks.{Mask, sharedBit, Adds}
 use Rattle.sets_location.specs.Adds.{AddsRow, Over, Empty, MetBytes, placeOf, wholeBytes, partBytes, partsOf}
 
@@ -315,11 +316,17 @@ parts-mask t x z {i} {a} {b} h g e =
     }
 
 -- what location order is made from stays
-pub locating-kept : {t : Table} {n : ℕ} {w u : List ℕ} → n ≤ ROWS → Within SOME LOCATION-END w u → Locating t n w → Locating t n u
-locating-kept few f l =
+pub locate-kept : {t : Table} {n : ℕ} {s w u : List ℕ} → Within SOME LOCATION-END w u → ToLocate t n s w → ToLocate t n s u
+locate-kept f g =
+    let few = given-few (g .given) in
+    let l = g .locating in
     record {
-      happening = grid-kept (λ h. omega arith) f (l .happening);
-      available = record { to = grid-on-kept (λ h. omega arith) f (l .available .to); by = grid-on-kept (λ h. omega arith) f (l .available .by) };
-      hosted = grid-kept (λ h. omega arith) f (l .hosted);
-      overlapping = grid-kept (λ h. omega arith) f (l .overlapping);
+      given = given-kept f (g .given);
+      locating =
+          record {
+            happening = grid-kept (λ h. omega arith) f (l .happening);
+            available = record { to = grid-on-kept (λ h. omega arith) f (l .available .to); by = grid-on-kept (λ h. omega arith) f (l .available .by) };
+            hosted = grid-kept (λ h. omega arith) f (l .hosted);
+            overlapping = grid-kept (λ h. omega arith) f (l .overlapping);
+          };
     }

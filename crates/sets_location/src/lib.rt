@@ -1,24 +1,24 @@
 // L1 to L5 by sets of rows: SOME, the rows that each access is ordered before at some shared byte, and LOCATION, at which bytes.
 ghost use mathlib.Core.Path.{_≡_};
 ghost use mathlib.Core.Bool.{true};
-ghost use Prim.Native.Nat.{_+_, _≤_, _<_};
+ghost use Prim.Native.Nat.{_+_};
 ghost use lib.ListN.{length};
 ghost use Rattle.model.specs.Row.{access};
 ghost use Rattle.run.specs.Layout.{tableIn};
-ghost use Rattle.sets_grids.specs.Given.{Given};
+ghost use Rattle.sets_grids.specs.RowThat.{RowThat};
+ghost use Rattle.sets_grids.specs.Given.{Given, Fitting};
 ghost use Rattle.sets_of_rows.specs.Rows.{Rows};
 ghost use Rattle.model_placing.specs.Leads.{meets};
 ghost use Rattle.model_placing.specs.Whole.{firstPlain};
 ghost use Rattle.model_placing.specs.Writer.{fullSet};
 ghost use Rattle.sets_of_table.specs.Known.{Opened};
-ghost use Rattle.sets_grids.specs.Location.{Locating, MadeLocation};
+ghost use Rattle.sets_grids.specs.Location.{Locating, ToLocate, MadeLocation};
 ghost use Rattle.sets_location.specs.Told.{ToldTo};
 ghost use Rattle.sets_location.specs.Met.{Grasps};
-ghost use Rattle.model.specs.Limits.{ROWS, WORK};
 ghost use Rattle.model.specs.Edge.{beforeNth};
 ghost use Rattle.sets_of_table.specs.Fit.{Fit};
-ghost use Rattle.sets_grids.specs.Available.{shownTo, Available};
-ghost use Rattle.sets_location.specs.Adds.{AddsRow, Over, Targets, PublicWrite, Widely, Carried, Empty, wholeBytes, partsOf};
+ghost use Rattle.sets_grids.specs.Available.{shownTo};
+ghost use Rattle.sets_location.specs.Adds.{AddsRow, Over, Targets, PublicWrite, Carrier, Carried, Next, Empty, wholeBytes, partsOf};
 
 pub mod part; // bytes of plain rows
 
@@ -35,7 +35,7 @@ const MADE: usize = 512;
 
 // L1, L2, L4 and L5 of x.
 fn ordered_after(t: &Run, n: usize, s: &[u64], x: usize, w: &[u64]) -> Set
-    requires { ⌜ (x < n) × (access (tableIn (now t) n .row x) ≡ true) × Given (tableIn (now t) n) n (now s) (now w) × Locating (tableIn (now t) n) n (now w) ⌝ }
+    requires { ⌜ RowThat access (tableIn (now t) n .row) n x × ToLocate (tableIn (now t) n) n (now s) (now w) ⌝ }
     ensures { λ r. ⌜ ToldTo (tableIn (now (t .entry)) n) n x r ⌝ }
 {
     let happens = kept::get(w, sets_grids::HAPPENS, x);
@@ -53,7 +53,7 @@ fn ordered_after(t: &Run, n: usize, s: &[u64], x: usize, w: &[u64]) -> Set
 
 // x is ordered before each of `to` at all shared bytes.
 fn put_whole(t: &Run, n: usize, x: usize, to: Set, w: &mut [u64])
-    requires { ⌜ (x < n) × (n ≤ ROWS) × (WORK ≤ length (now w)) × Fit (tableIn (now t) n) × Over (tableIn (now t) n) n x to × Empty x (now w) ⌝ }
+    requires { ⌜ Fitting (tableIn (now t) n) n (now w) × Over (tableIn (now t) n) n x to × Empty x (now w) ⌝ }
     ensures { λ _. ⌜ AddsRow n x (wholeBytes (tableIn (now (t .entry)) n) x to) (now (w .entry)) (now (w .exit)) ⌝ }
 {
     kept::put(w, sets_grids::SOME, x, to);
@@ -68,7 +68,7 @@ fn put_whole(t: &Run, n: usize, x: usize, to: Set, w: &mut [u64])
 
 // x is ordered before each of `to` at the bytes that it meets by way of operations of plain rows.
 fn put_parts(t: &Run, n: usize, s: &[u64], x: usize, to: Set, g: part::Available, w: &mut [u64])
-    requires { ⌜ (x < n) × (access (tableIn (now t) n .row x) ≡ true) × Given (tableIn (now t) n) n (now s) (now w) × Locating (tableIn (now t) n) n (now w) × Grasps (tableIn (now t) n) n x g × Targets (tableIn (now t) n) n x to ⌝ }
+    requires { ⌜ ToLocate (tableIn (now t) n) n (now s) (now w) × Grasps (tableIn (now t) n) n x g × Targets (tableIn (now t) n) n x to ⌝ }
     ensures { λ _. ⌜ AddsRow n x (partsOf (tableIn (now (t .entry)) n) x to) (now (w .entry)) (now (w .exit)) ⌝ }
 {
     let mut left = to;
@@ -87,7 +87,7 @@ fn put_parts(t: &Run, n: usize, s: &[u64], x: usize, to: Set, g: part::Available
 
 // The plain rows that x is, or is program-ordered before, whose availability operations cover some of its bytes.
 fn plain_available(t: &Run, n: usize, s: &[u64], x: usize, w: &[u64]) -> Set
-    requires { ⌜ (x < n) × (access (tableIn (now t) n .row x) ≡ true) × Given (tableIn (now t) n) n (now s) (now w) × Locating (tableIn (now t) n) n (now w) ⌝ }
+    requires { ⌜ RowThat access (tableIn (now t) n .row) n x × ToLocate (tableIn (now t) n) n (now s) (now w) ⌝ }
     ensures { λ r. ⌜ Rows n (firstPlain (tableIn (now (t .entry)) n) x) r ⌝ }
 {
     let plain = sets_of_rows::and(
@@ -113,7 +113,7 @@ fn made_available(
     made: &[u64],
     w: &[u64],
 ) -> part::Available
-    requires { ⌜ (x < n) × (access (tableIn (now t) n .row x) ≡ true) × Given (tableIn (now t) n) n (now s) (now w) × Locating (tableIn (now t) n) n (now w) × (512 ≤ length (now made)) × Carried (tableIn (now t) n) n (x + 1) (now made) ⌝ }
+    requires { ⌜ RowThat access (tableIn (now t) n .row) n x × ToLocate (tableIn (now t) n) n (now s) (now w) × Carried (tableIn (now t) n) n (x + 1) (now made) ⌝ }
     ensures { λ g. ⌜ Grasps (tableIn (now (t .entry)) n) n x g ⌝ }
 {
     let k = fields::agent(t, x) * 8 + fields::class(t, x);
@@ -140,7 +140,7 @@ fn made_available(
 
 // L3 of the public write x and rows of its reference: those that meet all of it by operations that cover all shared bytes.
 fn met_whole(t: &Run, n: usize, s: &[u64], x: usize, g: part::Available) -> Set
-    requires { ⌜ (x < n) × (access (tableIn (now t) n .row x) ≡ true) × Opened (tableIn (now t) n) n (now s) × Grasps (tableIn (now t) n) n x g ⌝ }
+    requires { ⌜ RowThat access (tableIn (now t) n .row) n x × Opened (tableIn (now t) n) n (now s) × Grasps (tableIn (now t) n) n x g ⌝ }
     ensures { λ r. let t = tableIn (now (t .entry)) n in ⌜ Rows n (fullSet t (meets t) (shownTo t) x) r ⌝ }
 {
     let reads = sets_of_table::rows(s, sets_of_table::READS);
@@ -163,7 +163,7 @@ fn place_write(
     made: &[u64],
     w: &mut [u64],
 )
-    requires { ⌜ (x < n) × Given (tableIn (now t) n) n (now s) (now w) × Locating (tableIn (now t) n) n (now w) × (512 ≤ length (now made)) × Carried (tableIn (now t) n) n (x + 1) (now made) × PublicWrite (tableIn (now t) n) n x before over × Empty x (now w) ⌝ }
+    requires { ⌜ ToLocate (tableIn (now t) n) n (now s) (now w) × PublicWrite (tableIn (now t) n) n x before over × Next (tableIn (now t) n) n x (now made) (now w) ⌝ }
     ensures { λ _. ⌜ AddsRow n x (beforeNth (tableIn (now (t .entry)) n) x) (now (w .entry)) (now (w .exit)) ⌝ }
 {
     let public = sets_of_rows::and(
@@ -183,7 +183,7 @@ fn place_write(
 
 // All of x.
 fn place_row(t: &Run, n: usize, s: &[u64], x: usize, made: &[u64], w: &mut [u64])
-    requires { ⌜ (x < n) × (access (tableIn (now t) n .row x) ≡ true) × Given (tableIn (now t) n) n (now s) (now w) × Locating (tableIn (now t) n) n (now w) × (512 ≤ length (now made)) × Carried (tableIn (now t) n) n (x + 1) (now made) × Empty x (now w) ⌝ }
+    requires { ⌜ (access (tableIn (now t) n .row x) ≡ true) × ToLocate (tableIn (now t) n) n (now s) (now w) × Next (tableIn (now t) n) n x (now made) (now w) ⌝ }
     ensures { λ _. ⌜ AddsRow n x (beforeNth (tableIn (now (t .entry)) n) x) (now (w .entry)) (now (w .exit)) ⌝ }
 {
     let before = ordered_after(t, n, s, x, w);
@@ -201,7 +201,7 @@ fn place_row(t: &Run, n: usize, s: &[u64], x: usize, made: &[u64], w: &mut [u64]
 
 // What the atomic or barrier x makes available is made for the rows of its agent before it, of each of its classes.
 fn carry_back(t: &Run, n: usize, x: usize, made: &mut [u64], w: &[u64])
-    requires { ⌜ (x < n) × Widely (tableIn (now t) n) x × Fit (tableIn (now t) n) × (WORK ≤ length (now w)) × Available (tableIn (now t) n) n (now w) × (512 ≤ length (now made)) × Carried (tableIn (now t) n) n (x + 1) (now made) ⌝ }
+    requires { ⌜ Fit (tableIn (now t) n) × Carrier (tableIn (now t) n) n x (now w) × Carried (tableIn (now t) n) n (x + 1) (now made) ⌝ }
     ensures { λ _. ⌜ (length (now (made .exit)) ≡ length (now (made .entry))) × Carried (tableIn (now (t .entry)) n) n x (now (made .exit)) ⌝ }
 {
     let agent = fields::agent(t, x);

@@ -4,8 +4,8 @@ ghost use mathlib.Core.Bool.{true, false};
 ghost use Prim.Native.Nat.{ℕ, _≤_, _<_};
 ghost use lib.ListN.{length};
 ghost use Rattle.finite.specs.Below.{anyBelow};
-ghost use Rattle.model.specs.Limits.{ROWS, WORK};
-ghost use Rattle.model.specs.Row.{access, reads, covers};
+ghost use Rattle.model.specs.Limits.{ROWS};
+ghost use Rattle.model.specs.Row.{access, covers};
 ghost use Rattle.model.specs.Table.{rowOf};
 ghost use Rattle.run.specs.Layout.{rowsIn, tableIn};
 ghost use Rattle.sets_of_rows.specs.Member.{inSet};
@@ -14,11 +14,13 @@ ghost use Rattle.model_placing.specs.Elements.{seen};
 ghost use Rattle.sets_of_table.specs.Fit.{Fit};
 ghost use Rattle.sets_of_table.specs.Known.{WORDS, Opened};
 ghost use Rattle.sets_bytes.specs.Masks.{Mask};
-ghost use Rattle.sets_grids.specs.Given.{Given};
-ghost use Rattle.sets_grids.specs.Location.{Locating};
+ghost use Rattle.finite.specs.Several.{TwoOf};
+ghost use Rattle.sets_grids.specs.RowThat.{RowThat};
+ghost use Rattle.sets_grids.specs.Given.{Fitting};
+ghost use Rattle.sets_grids.specs.Location.{ToLocate};
 ghost use Rattle.sets_location.specs.Seen.{Among};
 ghost use Rattle.sets_location.specs.Met.{Grasps};
-ghost use Rattle.sets_location.specs.Adds.{Pair, MetBytes};
+ghost use Rattle.sets_location.specs.Adds.{Pair, Reader, MetBytes};
 ghost use Rattle.sets_location.specs.Maybe.{Maybes};
 ghost use Rattle.sets_location.specs.Elements.{plainShown, wideShown, byteOf, byteTo};
 use run::Run;
@@ -97,7 +99,7 @@ pub fn wide_visible(t: &Run, s: &[u64], x: usize) -> Set
 
 // The rows that may meet some byte of x: what is made available in part, or is visible by way of plain rows.
 pub fn maybe_met(t: &Run, n: usize, s: &[u64], x: usize, g: Available, w: &[u64]) -> Set
-    requires { ⌜ (x < n) × (access (tableIn (now t) n .row x) ≡ true) × Given (tableIn (now t) n) n (now s) (now w) × Locating (tableIn (now t) n) n (now w) × Grasps (tableIn (now t) n) n x g ⌝ }
+    requires { ⌜ RowThat access (tableIn (now t) n .row) n x × ToLocate (tableIn (now t) n) n (now s) (now w) × Grasps (tableIn (now t) n) n x g ⌝ }
     ensures { λ r. ⌜ Maybes (tableIn (now (t .entry)) n) n x r ⌝ }
 {
     let reads = sets_of_table::rows(s, sets_of_table::READS);
@@ -114,7 +116,7 @@ pub fn maybe_met(t: &Run, n: usize, s: &[u64], x: usize, g: Available, w: &[u64]
 
 // The bytes of x that one of the rows has.
 fn bytes_of(t: &Run, n: usize, x: usize, rows: Set) -> u64
-    requires { ⌜ (x < n) × (n ≤ ROWS) × Among n rows × Fit (tableIn (now t) n) ⌝ }
+    requires { ⌜ (x < n) × Among n rows × Fit (tableIn (now t) n) ⌝ }
     ensures { λ m. ⌜ Mask (λ k. anyBelow ROWS (byteOf (tableIn (now (t .entry)) n) x rows k)) m ⌝ }
 {
     let mut left = rows;
@@ -128,7 +130,7 @@ fn bytes_of(t: &Run, n: usize, x: usize, rows: Set) -> u64
 
 // The bytes of x that y, which doesn't read, meets: those of the operations that make it available to y.
 fn bytes_at_once(t: &Run, n: usize, x: usize, y: usize, g: Available, w: &[u64]) -> u64
-    requires { ⌜ (x < n) × (y < n) × (n ≤ ROWS) × (WORK ≤ length (now w)) × Among n (g .parts) × Fit (tableIn (now t) n) ⌝ }
+    requires { ⌜ TwoOf n x y × Fitting (tableIn (now t) n) n (now w) × Among n (g .parts) ⌝ }
     ensures { λ m. ⌜ Mask (λ k. anyBelow ROWS (byteTo (tableIn (now (t .entry)) n) (now (w .entry)) x y (g .parts) k)) m ⌝ }
 {
     let mut left = g.parts;
@@ -145,7 +147,7 @@ fn bytes_at_once(t: &Run, n: usize, x: usize, y: usize, g: Available, w: &[u64])
 
 // The bytes of x that the reader y meets: of each availability operation those that a visibility operation of y covers.
 fn bytes_seen(t: &Run, n: usize, s: &[u64], x: usize, y: usize, g: Available, w: &[u64]) -> u64
-    requires { ⌜ (x < n) × (y < n) × (reads (tableIn (now t) n .row y) ≡ true) × Pair (tableIn (now t) n) x y × Given (tableIn (now t) n) n (now s) (now w) × Locating (tableIn (now t) n) n (now w) × Grasps (tableIn (now t) n) n x g ⌝ }
+    requires { ⌜ Reader (tableIn (now t) n) n x y × ToLocate (tableIn (now t) n) n (now s) (now w) × Grasps (tableIn (now t) n) n x g ⌝ }
     ensures { λ m. ⌜ MetBytes (tableIn (now (t .entry)) n) x y m ⌝ }
 {
     let upto = sets_of_rows::less(
@@ -172,7 +174,7 @@ fn bytes_seen(t: &Run, n: usize, s: &[u64], x: usize, y: usize, g: Available, w:
 
 // The bytes of x that y meets by way of operations of plain rows.
 pub fn bytes_met(t: &Run, n: usize, s: &[u64], x: usize, y: usize, g: Available, w: &[u64]) -> u64
-    requires { ⌜ (x < n) × (y < n) × Pair (tableIn (now t) n) x y × Given (tableIn (now t) n) n (now s) (now w) × Locating (tableIn (now t) n) n (now w) × Grasps (tableIn (now t) n) n x g ⌝ }
+    requires { ⌜ Pair (tableIn (now t) n) n x y × ToLocate (tableIn (now t) n) n (now s) (now w) × Grasps (tableIn (now t) n) n x g ⌝ }
     ensures { λ m. ⌜ MetBytes (tableIn (now (t .entry)) n) x y m ⌝ }
 {
     if sets_of_rows::has(sets_of_table::rows(s, sets_of_table::READS), y) {

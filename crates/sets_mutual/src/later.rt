@@ -1,6 +1,5 @@
 // M3 by sets of rows: scoped modification order.
 ghost use mathlib.Core.Path.{_≡_};
-ghost use mathlib.Core.Bool.{true};
 ghost use Prim.Native.Nat.{ℕ, _<_};
 ghost use lib.Dec.{eqb};
 ghost use Rattle.finite.specs.Logic.{_and_, _or_};
@@ -14,6 +13,7 @@ ghost use Rattle.sets_of_rows.specs.Rows.{Rows};
 ghost use Rattle.work_area.specs.Regions.{MUTUAL};
 ghost use Rattle.sets_grids.specs.Regions.{LATER, LATER-END};
 ghost use Rattle.sets_grids.specs.Grid.{Grid, MadeGrid};
+ghost use Rattle.sets_grids.specs.RowThat.{RowThat};
 ghost use Rattle.sets_grids.specs.Given.{Given};
 ghost use Rattle.sets_mutual.specs.Later.{laterRank};
 use run::Run;
@@ -60,8 +60,7 @@ fn later_than(t: &Run, n: usize, x: Set, i: usize) -> Set
 // What follows the writer i.
 // Ruled out: one that has what comes before it.
 fn later_row(t: &Run, n: usize, s: &[u64], w: &[u64], i: usize) -> Set
-    requires { ⌜ (i < n) × (ranked (rowOf (rowsIn (now t)) i) ≡ true) × Given (tableIn (now t) n) n (now s) (now w)
-        × Grid MUTUAL n (mutually (tableIn (now t) n)) (now w) ⌝ }
+    requires { ⌜ RowThat ranked (rowOf (rowsIn (now t))) n i × Given (tableIn (now t) n) n (now s) (now w) × Grid MUTUAL n (mutually (tableIn (now t) n)) (now w) ⌝ }
     ensures { λ x. ⌜ Rows n (follows (tableIn (now (t .entry)) n) i) x ⌝ }
 {
     let writers = sets_of_rows::and(

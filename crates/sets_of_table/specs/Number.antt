@@ -37,6 +37,13 @@ pub record Numbered (key : ℕ → ℕ) (x : Set) (m : ℕ) (keys loc : List ℕ
   pub at : (r : ℕ) → r < m → inSet x r ≡ true → getD keys (getD loc r 0) 0 ≡ key r
   pub apart : (a b : ℕ) → a < b → b < l → getD keys a 0 ≡ getD keys b 0 → ⊥
 
+-- row i has a place for its number, and number l for its key
+pub record Free (i l : ℕ) (keys loc : List ℕ) : Type 0 where
+  pub row : i < ROWS
+  pub few : l ≤ i
+  pub keys : i < length keys
+  pub numbers : i < length loc
+
 -- one more number where the last was used
 unfoldable pub grown : ℕ → ℕ → ℕ → Type 0
 grown l f l′ = (f < l → l′ ≡ l) × (l ≤ f → l′ ≡ l + 1)

@@ -25,8 +25,9 @@ use Rattle.sets_of_rows.specs.Walk.{Walk, walk-begin, walk-turn, walk-end, walk
 
 -- ---- definitions
 
--- the numbers of the members of x are below ROWS
+-- the numbers of the members of x are below ROWS; there is a place for each row's
 pub record Small (loc : List ℕ) (x : Set) : Type 0 where
+  pub long : ROWS ≤ length loc
   pub each : (r : ℕ) → inSet x r ≡ true → getD loc r 0 < ROWS
 
 -- row j is a member and its number is k
@@ -136,8 +137,8 @@ placed-end {base} {loc} {x} {s} {u} left e h w = record { is = λ k j o. all .is
 
 -- ---- laws: groups
 
-pub small-numbered : {key : ℕ → ℕ} {x : Set} {l : ℕ} {keys loc : List ℕ} → Numbered key x ROWS keys loc l → Small loc x
-small-numbered {key} {x} {l} {keys} {loc} n = record { each = λ r e. go r e (decLt r ROWS) }
+pub small-numbered : {key : ℕ → ℕ} {x : Set} {l : ℕ} {keys loc : List ℕ} → ROWS ≤ length loc → Numbered key x ROWS keys loc l → Small loc x
+small-numbered {key} {x} {l} {keys} {loc} long n = record { long = long; each = λ r e. go r e (decLt r ROWS) }
   where
     go : (r : ℕ) → inSet x r ≡ true → Dec (r < ROWS) → getD loc r 0 < ROWS
     go r e (yes o) = let a = n .low r o e in let b = n .few in omega arith

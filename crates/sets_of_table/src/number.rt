@@ -7,7 +7,7 @@ ghost use Rattle.model.specs.Limits.{ROWS};
 ghost use Rattle.run.specs.Layout.{rowsIn};
 ghost use Rattle.sets_of_rows.specs.Kept.{setAt};
 ghost use Rattle.sets_of_rows.specs.Filling.{Filled};
-ghost use Rattle.sets_of_table.specs.Number.{keyIn, keyAt, grown, Step, Numbered};
+ghost use Rattle.sets_of_table.specs.Number.{keyIn, keyAt, grown, Step, Numbered, Free};
 ghost use Rattle.sets_of_table.specs.Placed.{Small, Placed, ofNumber, Grouped};
 ghost use Rattle.sets_of_table.specs.Tested.{ACCESS};
 use door_rows::bytes;
@@ -53,7 +53,7 @@ fn grow(l: usize, f: usize) -> usize
 
 // Row i gets the number of its key k, a new one after the l where none has it.
 fn number_row(keys: &mut [u64], loc: &mut [u64], i: usize, l: usize, k: u64) -> usize
-    requires { ⌜ (i < length (now keys)) × (i < length (now loc)) × (l ≤ i) × (i < ROWS) ⌝ }
+    requires { ⌜ Free i l (now keys) (now loc) ⌝ }
     ensures { λ r. ⌜ Step i l k (now (keys .entry)) (now (loc .entry)) (now (keys .exit)) (now (loc .exit)) r ⌝ }
 {
     let f = find(keys, l, k);
@@ -80,7 +80,7 @@ fn number(keys: &mut [u64], loc: &mut [u64], t: &Run, x: Set, whole: bool) -> us
 
 // The sets of the members of x by their numbers, from word `base` on.
 fn place(s: &mut [u64], loc: &[u64], base: usize, x: Set)
-    requires { ⌜ (base + 2 * ROWS ≤ length (now s)) × (ROWS ≤ length (now loc)) × Small (now loc) x ⌝ }
+    requires { ⌜ (base + 2 * ROWS ≤ length (now s)) × Small (now loc) x ⌝ }
     ensures { λ _. ⌜ Placed base (now (loc .entry)) x (now (s .entry)) (now (s .exit)) ⌝ }
 {
     bits::clear(s, base, base + 256);
@@ -95,7 +95,7 @@ fn place(s: &mut [u64], loc: &[u64], base: usize, x: Set)
 
 // Each member of x gets the set of its number, from word `base` of s on.
 fn spread(s: &mut [u64], by: &[u64], loc: &[u64], base: usize, x: Set)
-    requires { ⌜ (base + 2 * ROWS ≤ length (now s)) × (2 * ROWS ≤ length (now by)) × (ROWS ≤ length (now loc)) × Small (now loc) x ⌝ }
+    requires { ⌜ (base + 2 * ROWS ≤ length (now s)) × (2 * ROWS ≤ length (now by)) × Small (now loc) x ⌝ }
     ensures { λ _. ⌜ Filled base x (ofNumber (now (by .entry)) (now (loc .entry))) (now (s .entry)) (now (s .exit)) ⌝ }
 {
     bits::clear(s, base, base + 256);

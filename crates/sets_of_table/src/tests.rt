@@ -2,6 +2,7 @@
 ghost use mathlib.Core.Path.{_≡_};
 ghost use Prim.Native.Nat.{ℕ, _*_, _≤_, _<_};
 ghost use lib.ListN.{length};
+ghost use Rattle.finite.specs.Several.{ThreeOf};
 ghost use Rattle.finite.specs.Logic.{_or_};
 ghost use Rattle.sets_of_rows.specs.Member.{inSet};
 ghost use Rattle.sets_of_rows.specs.Family.{nth};
@@ -29,7 +30,7 @@ fn either(s: &[u64], a: usize, b: usize) -> Set
 
 // The rows of set a, b or c.
 fn any(s: &[u64], a: usize, b: usize, c: usize) -> Set
-    requires { ⌜ (2 * FILED ≤ length (now s)) × (a < FILED) × (b < FILED) × (c < FILED) ⌝ }
+    requires { ⌜ (2 * FILED ≤ length (now s)) × ThreeOf FILED a b c ⌝ }
     ensures { λ r. ⌜ ((j : ℕ) → inSet r j ≡ (inSet (nth (now (s .entry)) 0 a) j or inSet (nth (now (s .entry)) 0 b) j or inSet (nth (now (s .entry)) 0 c) j)) ⌝ }
 {
     sets_of_rows::or(either(s, a, b), kept::get(s, 0, c))
@@ -37,7 +38,7 @@ fn any(s: &[u64], a: usize, b: usize, c: usize) -> Set
 
 // The rows of set a, b, c or d.
 fn four(s: &[u64], a: usize, b: usize, c: usize, d: usize) -> Set
-    requires { ⌜ (2 * FILED ≤ length (now s)) × (a < FILED) × (b < FILED) × (c < FILED) × (d < FILED) ⌝ }
+    requires { ⌜ (2 * FILED ≤ length (now s)) × ThreeOf FILED a b c × (d < FILED) ⌝ }
     ensures { λ r. ⌜ ((j : ℕ) → inSet r j ≡ (inSet (nth (now (s .entry)) 0 a) j or inSet (nth (now (s .entry)) 0 b) j or (inSet (nth (now (s .entry)) 0 c) j or inSet (nth (now (s .entry)) 0 d) j))) ⌝ }
 {
     sets_of_rows::or(either(s, a, b), either(s, c, d))

@@ -1,14 +1,13 @@
 -- The class sets that no other stands for are enough for happens-before. Assumes nothing.
-use mathlib.Core.Path.{_≡_, refl, sym, ap, ap₂, _∙_}
+use mathlib.Core.Path.{_≡_, sym, ap, _∙_}
 use mathlib.Core.Bool.{Bool, true, false, cond}
 use mathlib.Core.List.{List}
 use mathlib.Core.Logic.{_⊎_, inl, inr, ⊎-elim}
-use Prim.Native.Nat.{ℕ, zero, suc, _+_, _-_, _*_, _/_, _%_, _≤_, _<_, min}
+use Prim.Native.Nat.{ℕ, zero, suc, _+_, _-_, _*_, _%_, _≤_, _<_}
 use native.Mathlib.Omega.{arith}
-use lib.Arith.{bin-ind}
-use lib.Bits.{bitAnd, and-step, and-shr, and-mask, and-comm, and-self, and-le-l}
+use lib.Bits.{bitAnd, and-mask, and-comm, and-self, and-le-l}
 use lib.Dec.{eqb}
-use borrow.Author.Tests.{eqb-true, eqb-false, eq-eqb, lt-ltb}
+use borrow.Author.Tests.{eqb-false, eq-eqb, lt-ltb}
 use Rattle.finite.specs.Logic.{_or_, which, bool-ext, not-both, split, and-true}
 use Rattle.finite.specs.Below.{anyBelow, any-in, any-out, below-cases}
 use Rattle.model.specs.Row.{holds}
@@ -17,41 +16,14 @@ use Rattle.model.specs.Table.{Table}
 use Rattle.model.specs.Moment.{itself, programOrder}
 use Rattle.model.specs.Availability.{availabilityMoment, visibilityMoment}
 use Rattle.model.specs.Happens.{interThread, interThreadBy, happens}
-use Rattle.model_hubs.specs.Wider.{lessBy, sharedBy, inter-wider}
+use Rattle.model_hubs.specs.Wider.{lessBy, sharedBy, inter-wider, and-assoc, holds-is}
 use Rattle.model_closing.specs.Order.{available-row, visible-row}
 use Rattle.sets_grids.specs.Grid.{grid-cong}
 use Rattle.sets_grids.specs.Happens.{doneBy, orderBy, HappensBy, Happening, happensRows, availableRows, availableVisibles, availables, visibles}
 use Rattle.sets_closure.specs.Widest.{widest}
 use Rattle.sets_order.specs.Inter.{wideTo}
 
--- ---- laws: what two numbers share
-
-and-half : (a b : ℕ) → bitAnd a b / 2 ≡ bitAnd (a / 2) (b / 2)
-and-half a b = and-shr a b 1
-
-and-odd : (a b : ℕ) → bitAnd a b % 2 ≡ min (a % 2) (b % 2)
-and-odd a b =
-    let e = and-step a b in
-    let l : min (a % 2) (b % 2) < 2 = omega arith in
-    omega (arith, e, l)
-
-and-assoc : (a b c : ℕ) → bitAnd (bitAnd a b) c ≡ bitAnd a (bitAnd b c)
-and-assoc a =
-    bin-ind (λ (n : ℕ). (b c : ℕ) → bitAnd (bitAnd n b) c ≡ bitAnd n (bitAnd b c)) (λ b c. refl)
-    (λ n ih b c. and-step (bitAnd n b) c
-    ∙ ap₂ (λ (x y : ℕ). bitAnd x (c / 2) * 2 + min y (c % 2)) (and-half n b) (and-odd n b)
-    ∙ ap₂ (λ (x y : ℕ). x * 2 + y) (ih (b / 2) (c / 2)) (min-assoc (n % 2) (b % 2) (c % 2))
-    ∙ sym (ap₂ (λ (x y : ℕ). bitAnd (n / 2) x * 2 + min (n % 2) y) (and-half b c) (and-odd b c))
-    ∙ sym (and-step n (bitAnd b c))) a
-  where
-    min-assoc : (x y z : ℕ) → min (min x y) z ≡ min x (min y z)
-    min-assoc x y z = omega arith
-
 -- ---- laws: class sets
-
-holds-is : (c s : ℕ) → holds c s ≡ true → bitAnd c s ≡ s
-unfolding holds
-holds-is c s e = eqb-true (bitAnd c s) s e
 
 holds-in : (c s : ℕ) → bitAnd c s ≡ s → holds c s ≡ true
 unfolding holds

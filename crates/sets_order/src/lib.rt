@@ -1,6 +1,6 @@
 // M6 and M7 by sets of rows: the closure of the dependencies, and happens-before.
 ghost use mathlib.Core.Path.{_≡_};
-ghost use Prim.Native.Nat.{_+_, _*_, _≤_, _<_};
+ghost use Prim.Native.Nat.{_+_, _*_, _≤_};
 ghost use lib.ListN.{length};
 ghost use Rattle.model.specs.Limits.{ROWS};
 ghost use Rattle.model.specs.Synchronizes.{synchronizes};
@@ -10,6 +10,7 @@ ghost use Rattle.sets_of_table.specs.Fit.{FitRun};
 ghost use Rattle.sets_grids.specs.Grid.{Grid};
 ghost use Rattle.sets_grids.specs.Given.{Given};
 ghost use Rattle.sets_grids.specs.Happens.{Leading};
+ghost use Rattle.sets_closure.specs.Classes.{ClassSet};
 ghost use Rattle.sets_order.specs.Down.{downFrom};
 ghost use Rattle.sets_order.specs.Inter.{AddsInter, AddsWidest};
 ghost use Rattle.sets_order.specs.Order.{MadeHappens, MadeOrder};
@@ -38,7 +39,7 @@ pub fn leads_down(w: &[u64], base: usize, x: Set) -> bool
 
 // All of it for the class set c, if there is any beside program order.
 fn add_inter_thread(t: &Run, n: usize, s: &[u64], c: usize, ends: Set, down: bool, w: &mut [u64])
-    requires { ⌜ (0 < c) × (c < 16) × Leading (tableIn (now t) n) n ends down (now s) (now w) ⌝ }
+    requires { ⌜ ClassSet c × Leading (tableIn (now t) n) n ends down (now s) (now w) ⌝ }
     ensures { λ _. ⌜ AddsInter (tableIn (now (t .entry)) n) n c (now (w .entry)) (now (w .exit)) ⌝ }
 {
     let k = sets_closure::of_classes(t, n, s, ends, c);
@@ -53,7 +54,7 @@ fn add_inter_thread(t: &Run, n: usize, s: &[u64], c: usize, ends: Set, down: boo
 
 // The same, unless another class set stands for c.
 fn add_widest(t: &Run, n: usize, s: &[u64], c: usize, ends: Set, down: bool, w: &mut [u64])
-    requires { ⌜ (0 < c) × (c < 16) × Leading (tableIn (now t) n) n ends down (now s) (now w) ⌝ }
+    requires { ⌜ ClassSet c × Leading (tableIn (now t) n) n ends down (now s) (now w) ⌝ }
     ensures { λ _. ⌜ AddsWidest (tableIn (now (t .entry)) n) n c (now (w .entry)) (now (w .exit)) ⌝ }
 {
     if !sets_closure::is_widest(t, n, s, c) {

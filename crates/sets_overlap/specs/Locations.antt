@@ -2,33 +2,32 @@
 use mathlib.Core.Path.{_≡_, refl, sym, ap, ap₂, subst, _∙_}
 use mathlib.Core.Bool.{Bool, true, false, not}
 use mathlib.Core.List.{List}
-use mathlib.Core.Logic.{_⊎_, inl, inr, ⊎-elim}
-use Prim.Native.Nat.{ℕ, _+_, _-_, _*_, _≤_, _<_}
+use mathlib.Core.Logic.{⊎-elim}
+use Prim.Native.Nat.{ℕ, _+_, _*_, _<_}
 use native.Mathlib.Omega.{arith}
 use native.Mathlib.Decide.{decLt, ℕ-discrete}
 use lib.ListN.{length, getD, replicate, length-replicate, getD-replicate}
-use lib.Dec.{ltb, eqb}
-use borrow.Author.Tests.{lt-ltb, le-ltb, ltb-true, eq-eqb, eqb-true}
-use Rattle.finite.specs.Logic.{_and_, _or_, bool-ext, split, and-true, and-on, and-false-left, and-false-right, and-left, and-right, and-on-right}
-use Rattle.finite.specs.Logic.{or-off, or-left, or-right, not-both, not-so, which}
+use lib.Dec.{ltb}
+use borrow.Author.Tests.{lt-ltb, le-ltb, ltb-true}
+use Rattle.finite.specs.Logic.{_and_, _or_, split, and-true, and-on, and-false-left, and-false-right, and-left, and-on-right}
+use Rattle.finite.specs.Logic.{or-off, or-right, not-both, not-so, which}
 use Rattle.finite.specs.Below.{anyBelow, any-off}
-use Rattle.bits.specs.Within.{Within}
-use Rattle.model.specs.declared.Row.{Row}
 use Rattle.model.specs.Limits.{ROWS}
 use Rattle.model.specs.Row.{access}
 use Rattle.model.specs.Scope.{sameLocation}
 use Rattle.model.specs.Table.{Table}
+use Rattle.model_laws.specs.WriterLaws.{same-sym, same-trans}
 use Rattle.work_area.specs.State.{overlaps}
 use Rattle.sets_of_rows.specs.declared.Set.{Set}
 use Rattle.sets_of_rows.specs.Member.{inSet, of, none-is, in-none}
-use Rattle.sets_of_rows.specs.First.{First, next, none-in}
+use Rattle.sets_of_rows.specs.First.{First, none-in}
 use Rattle.sets_of_rows.specs.Kept.{setAt, set-kept, Stored, joined}
 use Rattle.sets_of_rows.specs.Family.{nth}
 use Rattle.sets_of_rows.specs.Rows.{Rows, rows-at, rows-cong}
 use Rattle.sets_of_table.specs.Tested.{ACCESS}
 use Rattle.sets_of_table.specs.Known.{PLACE, Opened, samePlace, says-rows}
 use Rattle.sets_of_table.specs.Ask.{few}
-use Rattle.sets_overlap.specs.Overlap.{meet, met, Nearing, Head, Whole, Meeting, Met, Near, Turn}
+use Rattle.sets_overlap.specs.Overlap.{meet, met, Head, Whole, Meeting, Met, Near, Turn}
 use Rattle.sets_overlap.specs.Overlap.{same-meet, same-met, swap, over-is, here-is, own-here, less-next, near-turn}
 
 -- ---- laws: of truths
@@ -82,29 +81,6 @@ never true false = refl
 never false m = refl
 
 -- ---- laws: one place
-
-same-trans : (r q p : Row) → sameLocation r q ≡ true → sameLocation q p ≡ true → sameLocation r p ≡ true
-unfolding sameLocation
-same-trans r q p d e =
-    let x = split d in
-    let y = split e in
-    let x₀ = split (x .0) in
-    let y₀ = split (y .0) in
-    and-true (and-true (chain (r .start) (q .start) (p .start) (x₀ .0) (y₀ .0)) (chain (r .size) (q .size) (p .size) (x₀ .1) (y₀ .1)))
-    (chain (r .reference) (q .reference) (p .reference) (x .1) (y .1))
-  where
-    chain : (a b c : ℕ) → eqb a b ≡ true → eqb b c ≡ true → eqb a c ≡ true
-    chain a b c f g = eq-eqb a c (eqb-true a b f ∙ eqb-true b c g)
-
-same-sym : (r q : Row) → sameLocation r q ≡ true → sameLocation q r ≡ true
-unfolding sameLocation
-same-sym r q d =
-    let x = split d in
-    let x₀ = split (x .0) in
-    and-true (and-true (turn (r .start) (q .start) (x₀ .0)) (turn (r .size) (q .size) (x₀ .1))) (turn (r .reference) (q .reference) (x .1))
-  where
-    turn : (a b : ℕ) → eqb a b ≡ true → eqb b a ≡ true
-    turn a b f = eq-eqb b a (sym (eqb-true a b f))
 
 module _ (t : Table) where
   place-out : (j k : ℕ) → samePlace t j k ≡ true → (access (t .row k) ≡ true) × (sameLocation (t .row j) (t .row k) ≡ true)

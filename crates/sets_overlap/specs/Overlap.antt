@@ -8,26 +8,23 @@ use native.Mathlib.Omega.{arith}
 use native.Mathlib.Decide.{decLt, ℕ-discrete}
 use lib.ListN.{length}
 use lib.Dec.{ltb, eqb}
-use borrow.Author.Tests.{lt-ltb, le-ltb, ltb-true, eq-eqb, eqb-true}
+use borrow.Author.Tests.{lt-ltb, ltb-true, eq-eqb, eqb-true}
 use Rattle.finite.specs.Logic.{_and_, _or_, bool-ext, split, and-true, and-on, and-false-left, and-false-right, and-left, and-right, and-on-right, and-both, or-off, or-left, not-both, which}
-use Rattle.finite.specs.Below.{anyBelow, any-in, any-off, least-is}
+use Rattle.finite.specs.Below.{anyBelow, any-in, least-is}
 use Rattle.model.specs.declared.Row.{Row}
 use Rattle.model.specs.Limits.{ROWS}
 use Rattle.model.specs.Row.{access, touches, overlap}
 use Rattle.model.specs.Scope.{sameLocation}
 use Rattle.model.specs.Table.{Table}
 use Rattle.model_laws.specs.PairLaws.{overlap-is, inside-in, inside-out}
-use Rattle.work_area.specs.Regions.{OVERLAP}
 use Rattle.work_area.specs.State.{overlaps}
 use Rattle.sets_of_rows.specs.declared.Set.{Set}
 use Rattle.sets_of_rows.specs.Member.{inSet}
 use Rattle.sets_of_rows.specs.First.{First, next, first-next}
 use Rattle.sets_of_rows.specs.Kept.{setAt}
 use Rattle.sets_of_rows.specs.Family.{nth}
-use Rattle.sets_of_rows.specs.Filling.{Filling}
-use Rattle.sets_of_rows.specs.Rows.{Rows, rows-at, rows-in, rows-cong}
-use Rattle.sets_of_table.specs.Tested.{ACCESS}
-use Rattle.sets_of_table.specs.Known.{PLACE, Opened, samePlace, says-rows}
+use Rattle.sets_of_rows.specs.Rows.{Rows, rows-at}
+use Rattle.sets_of_table.specs.Known.{PLACE, Opened, samePlace}
 use Rattle.sets_of_table.specs.Ask.{few}
 
 -- ---- definitions

@@ -1,20 +1,17 @@
 // Axiom B by sets of rows: reads whose source is overwritten before them.
 ghost use mathlib.Core.Path.{_≡_};
 ghost use Prim.Native.Nat.{_≤_, _<_};
-ghost use mathlib.Core.Bool.{true};
 ghost use lib.ListN.{length};
-ghost use Rattle.model.specs.Limits.{WORK};
 ghost use Rattle.model.specs.Row.{reads};
 ghost use Rattle.model.specs.Table.{rowOf};
 ghost use Rattle.run.specs.Layout.{rowsIn, tableIn};
 ghost use Rattle.find_axioms.specs.Sources.{sourceIn};
 ghost use Rattle.find_axioms.specs.Overwritten.{foundOverwrite};
-ghost use Rattle.find_race.specs.Bytes.{Bounded};
 ghost use Rattle.model_placing.specs.Judge.{overBit};
-ghost use Rattle.sets_of_table.specs.Fit.{Fit};
 ghost use Rattle.sets_bytes.specs.Masks.{Mask};
-ghost use Rattle.sets_grids.specs.Given.{Given};
-ghost use Rattle.sets_grids.specs.Location.{Judging};
+ghost use Rattle.finite.specs.Several.{ThreeOf};
+ghost use Rattle.sets_grids.specs.RowThat.{RowThat};
+ghost use Rattle.sets_grids.specs.Location.{ToJudge, Judged};
 ghost use Rattle.sets_overwritten.specs.Over.{always, foundWriter};
 use find_axioms::overwritten::Overwrite;
 use run::Run;
@@ -24,7 +21,7 @@ use sets_of_table::fields;
 // The bytes of y at which z overwrites its source before it.
 // Ruled out: one that has the bytes of z or of the source, from their starts.
 pub fn overwrites(t: &Run, n: usize, source: usize, z: usize, y: usize, w: &[u64]) -> u64
-    requires { ⌜ (source < n) × (z < n) × (y < n) × Fit (tableIn (now t) n) × (tableIn (now t) n .rows ≡ n) × (WORK ≤ length (now w)) × Judging (tableIn (now t) n) n (now w) ⌝ }
+    requires { ⌜ ThreeOf n source z y × Judged (tableIn (now t) n) n (now w) ⌝ }
     ensures { λ m. ⌜ Mask (overBit (tableIn (now (t .entry)) n) (always source) y z) m ⌝ }
 {
     let a = sets_bytes::moved(t, n, work_area::pairs::mask(w, source, z), source, y);
@@ -35,8 +32,7 @@ pub fn overwrites(t: &Run, n: usize, source: usize, z: usize, y: usize, w: &[u64
 // The first writer that overwrites y's source before y, at the lowest byte.
 // Ruled out: one that gives another writer than the first.
 fn overwritten_by(t: &Run, n: usize, s: &[u64], source: usize, y: usize, w: &[u64]) -> Overwrite
-    requires { ⌜ (source < n) × (y < n) × (reads (rowOf (rowsIn (now t)) y) ≡ true) × Bounded (tableIn (now t) n) × Given (tableIn (now t) n) n (now s) (now w)
-        × Judging (tableIn (now t) n) n (now w) ⌝ }
+    requires { ⌜ (source < n) × RowThat reads (rowOf (rowsIn (now t))) n y × ToJudge (tableIn (now t) n) n (now s) (now w) ⌝ }
     ensures { λ r. ⌜ r ≡ foundWriter (tableIn (now (t .entry)) n) source y ⌝ }
 {
     let over = sets_of_rows::and(
@@ -63,7 +59,7 @@ fn overwritten_by(t: &Run, n: usize, s: &[u64], source: usize, y: usize, w: &[u6
 
 // The first read whose source, in `src`, is overwritten.
 pub fn first_overwrite(t: &Run, n: usize, src: &[u16], s: &[u64], w: &[u64]) -> Overwrite
-    requires { ⌜ (n ≤ length (now src)) × Bounded (tableIn (now t) n) × Given (tableIn (now t) n) n (now s) (now w) × Judging (tableIn (now t) n) n (now w) ⌝ }
+    requires { ⌜ (n ≤ length (now src)) × ToJudge (tableIn (now t) n) n (now s) (now w) ⌝ }
     ensures { λ r. ⌜ r ≡ foundOverwrite (tableIn (now (t .entry)) n) (sourceIn (now (src .entry))) ⌝ }
 {
     let mut left = sets_of_table::rows(s, sets_of_table::READS);

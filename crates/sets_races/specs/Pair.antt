@@ -3,19 +3,19 @@ use mathlib.Core.Path.{_≡_, refl, sym, ap, ap₂, subst, _∙_}
 use mathlib.Core.Bool.{Bool, true, false, not}
 use mathlib.Core.List.{List}
 use mathlib.Core.Logic.{⊎-elim}
-use Prim.Native.Nat.{ℕ, _+_, _-_, _*_, _/_, _%_, _^_, _≤_, _<_}
+use Prim.Native.Nat.{ℕ, _+_, _-_, _*_, _/_, _%_, _^_, _<_}
 use native.Mathlib.Omega.{arith}
 use native.Mathlib.Nat.{div-div-eq-div-mul}
 use native.Mathlib.Decide.{decLt}
 use lib.Pow.{pow-add}
-use lib.ListN.{length, getD}
+use lib.ListN.{getD}
 use lib.Dec.{ltb, leb}
 use lib.Bits.{bitAnd, bitOr, bitXor, xor-lt, and-le-l}
 use lib.Count.{trailingZeros}
 use borrow.Author.Tests.{lt-ltb, le-ltb, ltb-true, ne-eqb}
 use Rattle.finite.specs.Logic.{_and_, _or_, bool-ext, split, and-true, and-on, and-false-left, not-in, not-both, or-left, or-right, or-cases, which}
 use Rattle.finite.specs.Below.{least, least-is, least-off, least-unique}
-use Rattle.model.specs.Limits.{ROWS, WORK, LONGEST, BYTES}
+use Rattle.model.specs.Limits.{ROWS, LONGEST, BYTES}
 use Rattle.model.specs.Row.{access, writes, touches}
 use Rattle.model.specs.Table.{Table}
 use Rattle.model.specs.Scope.{mutually}
@@ -39,19 +39,12 @@ use Rattle.sets_of_table.specs.Tested.{WRITES}
 use Rattle.sets_of_table.specs.Known.{says-rows}
 use Rattle.sets_grids.specs.Grid.{grid-at}
 use Rattle.sets_grids.specs.Given.{Given}
-use Rattle.sets_grids.specs.Location.{Judging}
+use Rattle.sets_grids.specs.Location.{Judging, Judged}
 use Rattle.model_placing.specs.Judge.{bitAt, bit-is}
 use Rattle.sets_bytes.specs.Masks.{Mask, sharedBit, movedBit}
 use Rattle.sets_races.specs.Sums.{above}
 
 -- ---- definitions
-
--- what a pair's bytes are read from
-pub record Judged (t : Table) (n : ℕ) (w : List ℕ) : Type 0 where
-  pub fit : Fit t
-  pub rows : t .rows ≡ n
-  pub room : WORK ≤ length w
-  pub judging : Judging t n w
 
 -- row y comes after x, conflicts with it, and isn't mutually-ordered with it
 unfoldable pub openAfter : Table → ℕ → ℕ → Bool
@@ -61,13 +54,7 @@ openAfter t x y = above (conflict t) x y and not (mutually t x y)
 unfoldable pub overAfter : Table → ℕ → ℕ → Bool
 overAfter t x y = overlaps t x y and (ltb x y and ltb y ROWS)
 
--- ---- laws: what is given
-
-pub judged : {t : Table} {n : ℕ} {s w : List ℕ} → Given t n s w → Judging t n w → Judged t n w
-judged g j = record { fit = g .opened .fit; rows = g .opened .rows; room = g .room; judging = j }
-
-pub judged-few : {t : Table} {n : ℕ} {w : List ℕ} → Judged t n w → n ≤ ROWS
-judged-few j = let a = j .rows in let b = j .fit .few in omega arith
+-- ---- laws
 
 pub open-conflict : (t : Table) (x y : ℕ) → openAfter t x y ≡ true → conflict t x y ≡ true
 unfolding openAfter above
@@ -199,10 +186,10 @@ module _ {t : Table} {n : ℕ} {w : List ℕ} (j : Judged t n w) where
   moved-is : (x z k v : ℕ) → x < n → z < n → v ≡ maskAt w (LOCATION * 64 + x * PAIRS + z * PAIR) → movedBit t v x z k ≡ before t x z (nth t z k)
   unfolding movedBit bitAt
   moved-is x z k v l m e =
-      let r = j .rows in
+      let r = j .fitting .rows in
       ap (λ (b : Bool). leb (t .row x .start) (nth t z k) and b) (pair-cut x z (nth t z k - t .row x .start) v l m e)
       ∙ assoc (leb (t .row x .start) (nth t z k)) (ltb (nth t z k - t .row x .start) LONGEST) (beforeNth t x z (nth t z k - t .row x .start))
-      ∙ sym (bit-is t (j .fit .sized) x z (nth t z k) (omega arith))
+      ∙ sym (bit-is t (j .fitting .fit .sized) x z (nth t z k) (omega arith))
 
   pub unordered-mask : (x y all m v b : ℕ) → x < n → y < n → conflict t x y ≡ true → Mask (sharedBit t x y) all
       → m ≡ maskAt w (LOCATION * 64 + x * PAIRS + y * PAIR) → v ≡ maskAt w (LOCATION * 64 + y * PAIRS + x * PAIR) → Mask (movedBit t v y x) b

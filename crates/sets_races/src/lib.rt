@@ -9,14 +9,14 @@ ghost use Rattle.model.specs.Report.{conflictOrdered};
 ghost use Rattle.bits.specs.Bit.{bitOf};
 ghost use Rattle.run.specs.Layout.{rowsIn, tableIn};
 ghost use Rattle.sets_of_rows.specs.Rows.{Rows};
-ghost use Rattle.find_race.specs.Bytes.{Bounded};
 ghost use Rattle.find_race.specs.First.{foundRace};
-ghost use Rattle.sets_grids.specs.Given.{Given};
-ghost use Rattle.sets_grids.specs.Location.{Judging};
+ghost use Rattle.finite.specs.Several.{TwoOf};
+ghost use Rattle.sets_grids.specs.RowThat.{RowThat};
+ghost use Rattle.sets_grids.specs.Location.{ToJudge, Judged};
 ghost use Rattle.sets_bytes.specs.Masks.{Mask};
 ghost use Rattle.sets_races.specs.Counted.{Counted};
 ghost use Rattle.sets_races.specs.Sums.{above, rowCount};
-ghost use Rattle.sets_races.specs.Pair.{Judged, openAfter};
+ghost use Rattle.sets_races.specs.Pair.{openAfter};
 use find_race::Found;
 use run::Run;
 use sets_of_rows::Set;
@@ -27,7 +27,7 @@ use sets_of_table::fields;
 
 // The rows after i that conflict with it: they share bytes, and one of the two writes.
 fn conflicting(t: &Run, n: usize, s: &[u64], i: usize, w: &[u64]) -> Set
-    requires { ⌜ (i < n) × (access (rowOf (rowsIn (now t)) i) ≡ true) × Given (tableIn (now t) n) n (now s) (now w) × Judging (tableIn (now t) n) n (now w) ⌝ }
+    requires { ⌜ RowThat access (rowOf (rowsIn (now t))) n i × ToJudge (tableIn (now t) n) n (now s) (now w) ⌝ }
     ensures { λ r. ⌜ Rows n (above (conflict (tableIn (now (t .entry)) n)) i) r ⌝ }
 {
     let writes = sets_of_table::rows(s, sets_of_table::WRITES);
@@ -41,7 +41,7 @@ fn conflicting(t: &Run, n: usize, s: &[u64], i: usize, w: &[u64]) -> Set
 
 // The shared bytes of i and j at which neither is ordered before the other.
 fn unordered(t: &Run, n: usize, i: usize, j: usize, w: &[u64]) -> u64
-    requires { ⌜ (i < n) × (j < n) × (conflict (tableIn (now t) n) i j ≡ true) × Judged (tableIn (now t) n) n (now w) ⌝ }
+    requires { ⌜ TwoOf n i j × (conflict (tableIn (now t) n) i j ≡ true) × Judged (tableIn (now t) n) n (now w) ⌝ }
     ensures { λ m. ⌜ Mask (unorderedNth (tableIn (now (t .entry)) n) i j) m ⌝ }
 {
     let all = sets_bytes::shared(t, n, i, j);
@@ -52,7 +52,7 @@ fn unordered(t: &Run, n: usize, i: usize, j: usize, w: &[u64]) -> u64
 
 // The rows after i that conflict with it and aren't mutually-ordered with it.
 fn open_after(t: &Run, n: usize, s: &[u64], i: usize, w: &[u64]) -> Set
-    requires { ⌜ (i < n) × (access (rowOf (rowsIn (now t)) i) ≡ true) × Given (tableIn (now t) n) n (now s) (now w) × Judging (tableIn (now t) n) n (now w) ⌝ }
+    requires { ⌜ RowThat access (rowOf (rowsIn (now t))) n i × ToJudge (tableIn (now t) n) n (now s) (now w) ⌝ }
     ensures { λ r. ⌜ Rows n (openAfter (tableIn (now (t .entry)) n) i) r ⌝ }
 {
     sets_of_rows::less(
@@ -72,7 +72,7 @@ fn is_set(m: u64, k: u32) -> bool
 // The first pair in row order that races, then its lowest shared byte with no order: the lower row, the higher, the byte.
 // Ruled out: one that shows the rows exchanged; one that shows the lowest shared byte, ordered or not.
 pub fn first_race(t: &Run, n: usize, s: &[u64], w: &[u64]) -> Found
-    requires { ⌜ Bounded (tableIn (now t) n) × Given (tableIn (now t) n) n (now s) (now w) × Judging (tableIn (now t) n) n (now w) ⌝ }
+    requires { ⌜ ToJudge (tableIn (now t) n) n (now s) (now w) ⌝ }
     ensures { λ r. ⌜ r ≡ foundRace (tableIn (now (t .entry)) n) ⌝ }
 {
     let mut answer = Found::Nothing;
@@ -132,7 +132,7 @@ fn count_ordered(t: &Run, n: usize, i: usize, others: Set, w: &[u64]) -> u16
 
 // The pairs that conflict; of these the mutually-ordered ones, and of the others those that have order at every shared byte.
 pub fn count_pairs(t: &Run, n: usize, s: &[u64], w: &[u64]) -> Counts
-    requires { ⌜ Given (tableIn (now t) n) n (now s) (now w) × Judging (tableIn (now t) n) n (now w) ⌝ }
+    requires { ⌜ ToJudge (tableIn (now t) n) n (now s) (now w) ⌝ }
     ensures { λ c. ⌜ Counted (tableIn (now (t .entry)) n) c ⌝ }
 {
     let mut c = Counts {

@@ -63,6 +63,12 @@ pub record Ends (t : Table) (h e : ℕ) : Type 0 where
   pub low : (z : ℕ) → z < t .rows → closes t h z ≡ true → e ≤ sinceHead t h z
   pub hit : e < COUNTS → (z : ℕ) × (z < t .rows) × (closes t h z ≡ true) × (e ≡ sinceHead t h z)
 
+-- the sequence that row h of n heads ends at e; and ranks have 16 bits
+pub record Head (t : Table) (n h e : ℕ) : Type 0 where
+  pub low : h < n
+  pub ends : Ends t h e
+  pub ranks : Ranks t
+
 -- k follows h in its sequence
 unfoldable pub continuedBy : Table → ℕ → ℕ → Bool
 continuedBy t h k = follows t h k and not (anyBelow (t .rows) (ends t h k))

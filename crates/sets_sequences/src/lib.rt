@@ -10,7 +10,7 @@ ghost use Rattle.sets_grids.specs.Regions.{LATER, HEADS, HEADS-END};
 ghost use Rattle.sets_grids.specs.Grid.{Grid, MadeGrid};
 ghost use Rattle.sets_grids.specs.Given.{Given};
 ghost use Rattle.sets_grids.specs.Synced.{headedBy};
-ghost use Rattle.sets_sequences.specs.Heads.{Ranks, since, Ends, Headed, JoinsIf};
+ghost use Rattle.sets_sequences.specs.Heads.{since, Ends, Head, Headed, JoinsIf};
 
 pub mod taken; // who gets what is read from them
 
@@ -80,7 +80,7 @@ fn end_of(t: &Run, n: usize, s: &[u64], h: usize, w: &[u64]) -> u32
 
 // Row h joins the heads of each RMW that is in its sequence, which ends at `end`.
 fn add_head(t: &Run, n: usize, s: &[u64], h: usize, end: u32, w: &mut [u64])
-    requires { ⌜ (h < n) × Ends (tableIn (now t) n) h end × Ranks (tableIn (now t) n) × Given (tableIn (now t) n) n (now s) (now w) × Grid LATER n (follows (tableIn (now t) n)) (now w) ⌝ }
+    requires { ⌜ Head (tableIn (now t) n) n h end × Given (tableIn (now t) n) n (now s) (now w) × Grid LATER n (follows (tableIn (now t) n)) (now w) ⌝ }
     ensures { λ _. ⌜ Headed (tableIn (now (t .entry)) n) n h (now (w .entry)) (now (w .exit)) ⌝ }
 {
     let counted = run::counted(t);

@@ -39,6 +39,11 @@ carriedBy t a b x = ranked (t .row x) and leads t a x and takenBy t x b
 unfoldable pub carriedTo : Table → ℕ → ℕ → Bool
 carriedTo t a b = cond (barrier (t .row a)) (anyBelow (t .rows) (carriedBy t a b)) (takenBy t a b)
 
+-- what synchronizes-with is made from: what is read from each sequence, and what control barriers pass to
+pub record Carrying (t : Table) (n : ℕ) (w : List ℕ) : Type 0 where
+  pub taken : Grid TAKEN n (takenBy t) w
+  pub passed : Grid PASSED n (passedBy t) w
+
 -- ---- laws: kinds
 
 barrier-not-atomic : (r : Row) → barrier r ≡ true → atomic r ≡ true → ⊥

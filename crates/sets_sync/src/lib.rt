@@ -1,6 +1,4 @@
 // M5 by sets of rows: synchronizes-with.
-ghost use mathlib.Core.Path.{_≡_};
-ghost use mathlib.Core.Bool.{true};
 ghost use Prim.Native.Nat.{_<_};
 ghost use Rattle.model.specs.Row.{releases};
 ghost use Rattle.model.specs.Table.{rowOf};
@@ -8,11 +6,12 @@ ghost use Rattle.model.specs.Synchronizes.{synchronizes};
 ghost use Rattle.run.specs.Layout.{rowsIn, tableIn};
 ghost use Rattle.sets_of_rows.specs.Rows.{Rows};
 ghost use Rattle.work_area.specs.Regions.{SYNC, SYNC-END};
-ghost use Rattle.sets_grids.specs.Regions.{TAKEN, PASSED};
+ghost use Rattle.sets_grids.specs.Regions.{TAKEN};
 ghost use Rattle.sets_grids.specs.Grid.{Grid, MadeGrid};
+ghost use Rattle.sets_grids.specs.RowThat.{RowThat};
 ghost use Rattle.sets_grids.specs.Given.{Given};
-ghost use Rattle.sets_grids.specs.Synced.{takenBy, passedBy};
-ghost use Rattle.sets_sync.specs.Sync.{carriedTo};
+ghost use Rattle.sets_grids.specs.Synced.{takenBy};
+ghost use Rattle.sets_sync.specs.Sync.{carriedTo, Carrying};
 
 pub mod all; // M3 to M5
 
@@ -41,8 +40,7 @@ fn carried(t: &Run, n: usize, s: &[u64], a: usize, w: &[u64]) -> Set
 // The acquire rows that the release row a synchronizes-with: by a sequence or by a control barrier, where both scopes are shared.
 // Ruled out: one that has a itself; one that leaves out what a control barrier passes to.
 fn sync_row(t: &Run, n: usize, s: &[u64], a: usize, w: &[u64]) -> Set
-    requires { ⌜ (a < n) × (releases (rowOf (rowsIn (now t)) a) ≡ true) × Given (tableIn (now t) n) n (now s) (now w)
-        × Grid TAKEN n (takenBy (tableIn (now t) n)) (now w) × Grid PASSED n (passedBy (tableIn (now t) n)) (now w) ⌝ }
+    requires { ⌜ RowThat releases (rowOf (rowsIn (now t))) n a × Given (tableIn (now t) n) n (now s) (now w) × Carrying (tableIn (now t) n) n (now w) ⌝ }
     ensures { λ x. ⌜ Rows n (synchronizes (tableIn (now (t .entry)) n) a) x ⌝ }
 {
     let to = sets_of_rows::or(carried(t, n, s, a, w), kept::get(w, sets_grids::PASSED, a));
@@ -55,8 +53,7 @@ fn sync_row(t: &Run, n: usize, s: &[u64], a: usize, w: &[u64]) -> Set
 
 // SYNC.
 pub fn fill_sync(t: &Run, n: usize, s: &[u64], w: &mut [u64])
-    requires { ⌜ Given (tableIn (now t) n) n (now s) (now w) × Grid TAKEN n (takenBy (tableIn (now t) n)) (now w)
-        × Grid PASSED n (passedBy (tableIn (now t) n)) (now w) ⌝ }
+    requires { ⌜ Given (tableIn (now t) n) n (now s) (now w) × Carrying (tableIn (now t) n) n (now w) ⌝ }
     ensures { λ _. ⌜ MadeGrid SYNC SYNC-END SYNC n (synchronizes (tableIn (now (t .entry)) n)) (now (w .entry)) (now (w .exit)) ⌝ }
 {
     bits::clear(w, work_area::SYNC, work_area::SYNC_END);

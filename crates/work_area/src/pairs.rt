@@ -3,6 +3,7 @@
 ghost use mathlib.Core.Path.{_≡_};
 ghost use Prim.Native.Nat.{_+_, _*_, _≤_, _<_};
 ghost use lib.ListN.{length};
+ghost use Rattle.finite.specs.Several.{TwoOf};
 ghost use Rattle.bits.specs.Bit.{bit, setBitIf};
 ghost use Rattle.model.specs.Limits.{ROWS, WORK};
 ghost use Rattle.work_area.specs.Regions.{LOCATION, PAIR, PAIRS};
@@ -23,7 +24,7 @@ pub fn at(x: usize, y: usize) -> usize
 // Bit k of rows x and y.
 // Ruled out: one that reads the bit of rows y and x; one that reads the next pair's.
 pub fn get(w: &[u64], x: usize, y: usize, k: usize) -> bool
-    requires { ⌜ (x < ROWS) × (y < ROWS) × (k < PAIR) × (WORK ≤ length (now w)) ⌝ }
+    requires { ⌜ TwoOf ROWS x y × (k < PAIR) × (WORK ≤ length (now w)) ⌝ }
     ensures { λ b. ⌜ b ≡ bit (now (w .entry)) (LOCATION * 64 + x * PAIRS + y * PAIR + k) ⌝ }
 {
     bits::get(
@@ -45,7 +46,7 @@ pub fn mask(w: &[u64], x: usize, y: usize) -> u64
 // Sets it where b.
 // Ruled out: one that clears it where b is false; one that sets the bit of rows y and x.
 pub fn put_if(w: &mut [u64], x: usize, y: usize, k: usize, b: bool)
-    requires { ⌜ (x < ROWS) × (y < ROWS) × (k < PAIR) × (WORK ≤ length (now w)) ⌝ }
+    requires { ⌜ TwoOf ROWS x y × (k < PAIR) × (WORK ≤ length (now w)) ⌝ }
     ensures { λ _. ⌜ now (w .exit) ≡ setBitIf b (now (w .entry)) (LOCATION * 64 + x * PAIRS + y * PAIR + k) ⌝ }
 {
     bits::put_if(

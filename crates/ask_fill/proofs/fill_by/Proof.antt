@@ -12,7 +12,7 @@ fill-run-requires : tie.Need-fill-run-requires
 fill-run-requires c κs =
     let c-4 = c .before .before .before .before in
     let opened = c-4 .before .before .before .enter .ensures .1 _ _ (c-4 .a .given .1) in
-    (opened .room, opened .space, opened .run)
+    (record { work = opened .room; numbers = opened .space }, opened .run)
 
 returns-2 : tie.Need-returns-2
 returns-2 c =

@@ -7,14 +7,14 @@ use Rattle.ask_fill.proofs.fill_run.Statement.{statement}
 use Rattle.ask_fill.proofs.fill_run.Tie as tie
 
 read-sources-requires : tie.Need-read-sources-requires
-read-sources-requires c κs = few (c .before .before .pre .2)
+read-sources-requires c κs = few (c .before .before .pre .1)
 
 fill-run-by-requires : tie.Need-fill-run-by-requires
 fill-run-by-requires c κs =
     let c-4 = c .before .before .before .before in
     let pre = c-4 .before .before .pre in
     let list = c .before .before .before .read-sources .ensures in
-    (fit-of (pre .2), pre .0, pre .1, omega (arith, list .room, few (pre .2)))
+    (fit-of (pre .1), pre .0, omega (arith, list .room, few (pre .1)))
 
 returns : tie.Need-returns
 returns c =
@@ -23,7 +23,7 @@ returns c =
     let c-12 = c-8 .before .before .before .before in
     let pre = c-12 .before .before .before .pre in
     let list = c-12 .read-sources .ensures in
-    rows-filled _ _ _ _ list (pre .0) (c-8 .fill-run-by .ensures) (c .before .before .clear .ensures)
+    rows-filled _ _ _ _ list (pre .0 .work) (c-8 .fill-run-by .ensures) (c .before .before .clear .ensures)
 
 pub fill-run-spec : {M : Type 1} → statement M
 fill-run-spec =

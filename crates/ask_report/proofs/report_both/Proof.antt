@@ -11,8 +11,7 @@ report-run-requires : tie.Need-report-run-requires
 report-run-requires c κs =
     let c-4 = c .before .before .before .before in
     let opened = c-4 .before .before .before .enter .ensures .1 _ _ (c-4 .a .given .1) in (
-      opened .room,
-      opened .space,
+      record { work = opened .room; numbers = opened .space },
       opened .run,
       sourced (c-4 .before .before .before .enter .ensures .0) (c-4 .a .given .1) opened,
     )

@@ -7,7 +7,7 @@ use Rattle.model.specs.Limits.{ROWS}
 use Rattle.work_area.specs.Regions.{EDGE, GRID}
 use Rattle.sets_of_rows.specs.First.{next}
 use Rattle.sets_of_rows.specs.Walk.{Walk, walk-less, search-begin, search-turn, search-end}
-use Rattle.find_cycle.proofs.Closing.{loopIn, marks-of, loop-off, loop-below, loop-among, loop-found, loop-not, loop-none}
+use Rattle.find_cycle.proofs.Closing.{loopIn, marks-of, loop-off, loop-among, loop-found, loop-not, loop-none}
 use borrow.Author.Needs.{needs}
 use Rattle.find_cycle.proofs.first_looping.Statement.{statement}
 use Rattle.find_cycle.proofs.first_looping.Tie as tie
@@ -41,7 +41,7 @@ leads-back-requires c κs =
     let rows = marks-of _ _ _ _ (pre .0) (c-4 .before .before .below .ensures) (c-4 .before .get .ensures) (c-4 .and .ensures) in
     let inv = c .before .before .before .loop .inv in
     let low = c .first .ensures in
-    (pre .0, loop-below (pre .2) rows inv low, pre .1, loop-among (pre .2) rows inv low)
+    (pre .0, pre .1, loop-among (pre .2) rows inv low)
 
 returns : tie.Need-returns Inv-loop μ-loop
 returns c =

@@ -4,7 +4,7 @@ use Prim.Native.Nat.{_-_, _≤_}
 use native.Mathlib.Omega.{arith}
 use Rattle.finite.specs.Below.{anyBelow, any-none, any-more, any-in}
 use Rattle.run.specs.Layout.{rowsIn}
-use Rattle.run_tests.specs.Cases.{holdsAt}
+use Rattle.run_rows.specs.Cases.{holdsAt}
 use Rattle.flags_order.specs.Cases.{live-first, live-other}
 use borrow.Author.Needs.{needs}
 use Rattle.flags_order.proofs.is_live.Statement.{statement}

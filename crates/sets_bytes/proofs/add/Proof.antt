@@ -6,12 +6,12 @@ use Rattle.sets_bytes.proofs.add.Statement.{statement}
 use Rattle.sets_bytes.proofs.add.Tie as tie
 
 mul-w-2 : tie.Need-mul-w-2
-mul-w-2 c = omega (arith, add-fits (c .args .m) (c .args .y) (c .pre .2))
+mul-w-2 c = omega (arith, add-fits (c .args .m) (c .args .y) (c .pre .1))
 
 returns : tie.Need-returns
 returns c =
     let pre = c .before .pre in
-    adds (c .before .args .w .now) _ _ _ _ (pre .0) (pre .1) (pre .2) (pre .3) refl
+    adds (c .before .args .w .now) _ _ _ _ (pre .0 .first) (pre .0 .second) (pre .1) (pre .2) refl
 
 pub add-spec : {M : Type 1} → statement M
 add-spec =

@@ -8,19 +8,19 @@ use Rattle.sets_bytes.proofs.moved.Tie as tie
 
 start-requires : tie.Need-start-requires
 unfolding decode
-start-requires c κs = let few = c .pre .3 .few in omega (arith, few, c .pre .0)
+start-requires c κs = let few = c .pre .2 .few in omega (arith, few, c .pre .0 .first)
 
 start-requires-2 : tie.Need-start-requires-2
 unfolding decode
-start-requires-2 c κs = let few = c .before .pre .3 .few in omega (arith, few, c .before .pre .1)
+start-requires-2 c κs = let few = c .before .pre .2 .few in omega (arith, few, c .before .pre .0 .second)
 
 returns : tie.Need-returns
 unfolding decode
-returns c = all-past _ _ _ _ _ _ (c .before .before .start .ensures .0) (c .before .start2 .ensures .0) (c .before .before .before .pre .2) (c .if1 .taken)
+returns c = all-past _ _ _ _ _ _ (c .before .before .start .ensures .0) (c .before .start2 .ensures .0) (c .before .before .before .pre .1) (c .if1 .taken)
 
 returns-2 : tie.Need-returns-2
 unfolding decode
-returns-2 c = all-before _ _ _ _ _ _ (c .before .before .before .start .ensures .0) (c .before .before .start2 .ensures .0) (c .before .before .before .before .pre .2) (c .if2 .taken)
+returns-2 c = all-before _ _ _ _ _ _ (c .before .before .before .start .ensures .0) (c .before .before .start2 .ensures .0) (c .before .before .before .before .pre .1) (c .if2 .taken)
 
 div-result : tie.Need-div-result
 unfolding decode
@@ -30,19 +30,19 @@ returns-3 : tie.Need-returns-3
 unfolding decode
 returns-3 c =
     let c-4 = c .before .before .before .before in
-    down _ _ _ _ _ _ (c-4 .start .ensures .0) (c .before .before .before .start2 .ensures .0) (c-4 .before .pre .2) (c .if3 .taken) (omega arith)
+    down _ _ _ _ _ _ (c-4 .start .ensures .0) (c .before .before .before .start2 .ensures .0) (c-4 .before .pre .1) (c .if3 .taken) (omega arith)
 
 mul-result : tie.Need-mul-result
 unfolding decode
 mul-result c =
     let c-4 = c .before .before .before .before in
-    omega (arith, up-fits (c-4 .before .args .m) (c-4 .start .result - c .before .before .before .start2 .result) (c-4 .before .pre .2) (omega arith))
+    omega (arith, up-fits (c-4 .before .args .m) (c-4 .start .result - c .before .before .before .start2 .result) (c-4 .before .pre .1) (omega arith))
 
 returns-4 : tie.Need-returns-4
 unfolding decode
 returns-4 c =
     let c-4 = c .before .before .before .before in
-    up _ _ _ _ _ _ (c-4 .start .ensures .0) (c .before .before .before .start2 .ensures .0) (c-4 .before .pre .2) (omega arith) (omega arith)
+    up _ _ _ _ _ _ (c-4 .start .ensures .0) (c .before .before .before .start2 .ensures .0) (c-4 .before .pre .1) (omega arith) (omega arith)
 
 pub moved-spec : {M : Type 1} → statement M
 moved-spec =

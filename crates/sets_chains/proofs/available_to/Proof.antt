@@ -38,10 +38,10 @@ sharing-requires c κs =
     let c-4 = c .before .before .before .before in
     let c-8 = c-4 .before .before .before .before in
     let pre = c-8 .before .pre in
-    let m = member-in _ (pre .3) (walk-in (c-4 .before .loop .inv .0) (c .before .before .first .ensures)) in
+    let m = member-in _ (pre .0 .ends) (walk-in (c-4 .before .loop .inv .0) (c .before .before .first .ensures)) in
     let a = scope-low (pre .1 .opened) _ (m .0) in
     let e = c .scope .ensures in
-    (pre .0, omega arith, pre .1 .opened)
+    (pre .0 .low, omega arith, pre .1 .opened)
 
 get-requires : tie.Need-get-requires Inv-loop μ-loop
 get-requires c κs =
@@ -67,7 +67,7 @@ loop-again c =
     let c-8 = c-4 .before .before .before .before in
     let c-12 = c-8 .before .before .before .before in
     let pre = c-12 .before .before .before .pre in
-    let m = member-in _ (pre .3) (walk-in (c-8 .before .before .before .loop .inv .0) (c-8 .first .ensures)) in
+    let m = member-in _ (pre .0 .ends) (walk-in (c-8 .before .before .before .loop .inv .0) (c-8 .first .ensures)) in
     let f = c-4 .before .sharing .ensures in
     gather-turn _ _ (met-off _ _ _ _) (c-8 .before .before .before .loop .inv) (c-8 .first .ensures) (c-4 .before .before .before .but-first .ensures)
     (met-on _ _ _ _ _ _ _ _ _ _ _ _ (m .0) (rw (c-4 .before .before .scope .ensures) at f) (grid-at (pre .2 .rows) (m .0) (c-4 .get .ensures)) (c .before .before .before .and .ensures) (c .before .before .has .ensures) (c .before .only-if .ensures) (c .or .ensures))
@@ -75,7 +75,7 @@ loop-again c =
 returns : tie.Need-returns Inv-loop μ-loop
 returns c =
     let c-4 = c .before .before .before .before in
-    met-rows (c-4 .before .before .pre .1 .opened) _ _ _ (c-4 .before .before .pre .3) (gather-end _ _ (met-off _ _ _ _) _ _ (sym (c .before .some .ensures) ∙ c .if1 .left) (c .before .before .loop .inv .1))
+    met-rows (c-4 .before .before .pre .1 .opened) _ _ _ (c-4 .before .before .pre .0 .ends) (gather-end _ _ (met-off _ _ _ _) _ _ (sym (c .before .some .ensures) ∙ c .if1 .left) (c .before .before .loop .inv .1))
 
 pub available-to-spec : {M : Type 1} → statement M
 available-to-spec = tie.close (tie.spec Inv-loop μ-loop (λ c κs. search needs) loop-holds (λ c κs. search needs) first-requires but-first-requires scope-requires

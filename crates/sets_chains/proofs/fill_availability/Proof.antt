@@ -49,7 +49,7 @@ make-requires c κs =
     let inv = c-4 .before .loop .inv in
     let rows = rows-at (c-4 .before .before .rows .ensures) (says-rows (pre .0 .opened .known .tested .marked .available)) in
     let m = member-in _ rows (walk-in (inv .walk) (c .before .before .first .ensures)) in
-    (m .0, m .1, c-8 .before .before .before .chains .ensures, inv .ready)
+    (record { low = m .0; makes = m .1 }, inv .ready)
 
 loop-less : tie.Need-loop-less Inv-loop μ-loop
 loop-less c =

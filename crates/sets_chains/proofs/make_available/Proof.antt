@@ -8,28 +8,28 @@ use Rattle.sets_chains.proofs.make_available.Statement.{statement}
 use Rattle.sets_chains.proofs.make_available.Tie as tie
 
 reach-requires : tie.Need-reach-requires
-reach-requires c κs = (c .before .before .pre .0, c .before .before .pre .3 .opened)
+reach-requires c κs = (c .before .before .pre .0 .low, c .before .before .pre .1 .given .opened)
 
 hears-requires : tie.Need-hears-requires
-hears-requires c κs = (c .before .before .before .pre .0, c .before .before .before .pre .3 .opened)
+hears-requires c κs = (c .before .before .before .pre .0 .low, c .before .before .before .pre .1 .given .opened)
 
 get-requires : tie.Need-get-requires
 get-requires c κs =
     let c-4 = c .before .before .before .before in
-    omega (arith, c-4 .before .before .pre .0, given-few (c-4 .before .before .pre .3), c-4 .before .before .pre .3 .room)
+    omega (arith, c-4 .before .before .pre .0 .low, given-few (c-4 .before .before .pre .1 .given), c-4 .before .before .pre .1 .given .room)
 
 get-requires-2 : tie.Need-get-requires-2
 get-requires-2 c κs =
     let c-4 = c .before .before .before .before in
     let c-8 = c-4 .before .before .before .before in
-    omega (arith, c-8 .before .pre .0, given-few (c-8 .before .pre .3), c-8 .before .pre .3 .room)
+    omega (arith, c-8 .before .pre .0 .low, given-few (c-8 .before .pre .1 .given), c-8 .before .pre .1 .given .room)
 
 put-requires : tie.Need-put-requires
 put-requires c κs =
     let c-4 = c .before .before .before .before in
     let c-8 = c-4 .before .before .before .before in
     let c-12 = c-8 .before .before .before .before in
-    omega (arith, c-12 .pre .0, given-few (c-12 .pre .3), c-12 .pre .3 .room)
+    omega (arith, c-12 .pre .0 .low, given-few (c-12 .pre .1 .given), c-12 .pre .1 .given .room)
 
 put-requires-2 : tie.Need-put-requires-2
 put-requires-2 c κs =
@@ -37,7 +37,7 @@ put-requires-2 c κs =
     let c-8 = c-4 .before .before .before .before in
     let c-12 = c-8 .before .before .before .before in
     let c-16 = c-12 .before .before .before .before in
-    omega (arith, c-16 .pre .0, given-few (c-16 .pre .3), c-16 .pre .3 .room, c .before .before .before .put .ensures .frame .len)
+    omega (arith, c-16 .pre .0 .low, given-few (c-16 .pre .1 .given), c-16 .pre .1 .given .room, c .before .before .before .put .ensures .frame .len)
 
 same-length : tie.Need-same-length
 same-length c =
@@ -50,11 +50,11 @@ returns c =
     let c-8 = c-4 .before .before .before .before in
     let c-12 = c-8 .before .before .before .before in
     let c-16 = c-12 .before .before .before .before in
-    let o = c-16 .before .before .before .pre .3 .opened in
-    let f = given-few (c-16 .before .before .before .pre .3) in
-    made-one (omega (arith, c-16 .before .before .before .pre .0, f))
-    (alone-to _ _ o (c-16 .before .before .before .pre .0) (c-16 .before .before .before .pre .1) (c-16 .before .before .before .pre .2) (grid-at (c-16 .before .before .before .pre .4 .rows) (c-16 .before .before .before .pre .0) (c-12 .get .ensures)) (c-16 .reach .ensures) (c-8 .before .before .before .and2 .ensures))
-    (alone-by _ _ o (c-16 .before .before .before .pre .0) (c-16 .before .before .before .pre .1) (c-16 .before .before .before .pre .2) _ (grid-at (c-16 .before .before .before .pre .4 .visibles) (c-16 .before .before .before .pre .0) (c-8 .before .get2 .ensures)) (c-16 .reach .ensures) (c-12 .before .before .before .hears .ensures) (c-12 .before .before .and .ensures) (c-8 .and3 .ensures))
+    let o = c-16 .before .before .before .pre .1 .given .opened in
+    let f = given-few (c-16 .before .before .before .pre .1 .given) in
+    made-one (omega (arith, c-16 .before .before .before .pre .0 .low, f))
+    (alone-to _ _ o (c-16 .before .before .before .pre .0 .low) (c-16 .before .before .before .pre .0 .makes) (c-16 .before .before .before .pre .1 .device) (grid-at (c-16 .before .before .before .pre .1 .after .rows) (c-16 .before .before .before .pre .0 .low) (c-12 .get .ensures)) (c-16 .reach .ensures) (c-8 .before .before .before .and2 .ensures))
+    (alone-by _ _ o (c-16 .before .before .before .pre .0 .low) (c-16 .before .before .before .pre .0 .makes) (c-16 .before .before .before .pre .1 .device) _ (grid-at (c-16 .before .before .before .pre .1 .after .visibles) (c-16 .before .before .before .pre .0 .low) (c-8 .before .get2 .ensures)) (c-16 .reach .ensures) (c-12 .before .before .before .hears .ensures) (c-12 .before .before .and .ensures) (c-8 .and3 .ensures))
     (c-4 .before .before .put .ensures) (c .before .before .put2 .ensures)
 
 pub make-available-spec : {M : Type 1} → statement M

@@ -24,13 +24,13 @@ loop-holds c = (search needs, refl, listed-none _ _ refl)
 array-write-list : tie.Need-array-write-list Inv-loop μ-loop
 array-write-list c =
     let c-4 = c .before .before .before .before in
-    omega (arith, given-few (c-4 .before .before .before .pre .1))
+    omega (arith, given-few (c-4 .before .before .before .pre .1 .given))
 
 loop-again : tie.Need-loop-again Inv-loop μ-loop
 loop-again c =
     let c-4 = c .before .before .before .before in
     let inv = c .before .before .before .loop .inv in
-    let few = given-few (c-4 .before .before .before .pre .1) in
+    let few = given-few (c-4 .before .before .before .pre .1 .given) in
     let e = chosen-is _ (at (c-4 .before .before .before .args .src .now)) _ _ (c .chosen-at .ensures) in
     (search needs, simp length-set (inv .1), listed-more _ _ _ _ (omega (arith, few)) e (inv .2))
 

@@ -10,18 +10,18 @@ use Rattle.sets_choice.proofs.chosen_at.Statement.{statement}
 use Rattle.sets_choice.proofs.chosen_at.Tie as tie
 
 get-requires : tie.Need-get-requires
-get-requires c κs = let a = c .before .before .pre .1 .opened .space in omega arith
+get-requires c κs = let a = c .before .before .pre .1 .given .opened .space in omega arith
 
 has-requires : tie.Need-has-requires
-has-requires c κs = omega (arith, c .before .before .before .before .pre .0, given-few (c .before .before .before .before .pre .1))
+has-requires c κs = omega (arith, c .before .before .before .before .pre .0, given-few (c .before .before .before .before .pre .1 .given))
 
 choice-of-requires : tie.Need-choice-of-requires
 unfolding decode _and_
 choice-of-requires c κs =
     let c-4 = c .before .before .before .before in
     let pre = c-4 .before .before .before .pre in
-    let plain = plain-has (pre .1 .opened) _ (pre .0) (c-4 .get .ensures) (c .before .before .has .ensures) in
-    (pre .0, plain-access _ _ _ plain (c .if1 .taken), pre .1, pre .2)
+    let plain = plain-has (pre .1 .given .opened) _ (pre .0) (c-4 .get .ensures) (c .before .before .has .ensures) in
+    (record { low = pre .0; is = plain-access _ _ _ plain (c .if1 .taken) }, pre .1)
 
 returns : tie.Need-returns
 unfolding decode _and_
@@ -29,7 +29,7 @@ returns c =
     let c-4 = c .before .before .before .before in
     let c-8 = c-4 .before .before .before .before in
     let pre = c-8 .pre in
-    let plain = plain-has (pre .1 .opened) _ (pre .0) (c-4 .before .get .ensures) (c .before .before .before .has .ensures) in
+    let plain = plain-has (pre .1 .given .opened) _ (pre .0) (c-4 .before .get .ensures) (c .before .before .before .has .ensures) in
     blank-told _ _ _ _ _ _ _ refl (c-4 .of-row .ensures) plain (c .before .before .is-blank .ensures) (c .before .if1 .taken) _ (c .choice-of .ensures)
 
 returns-2 : tie.Need-returns-2
@@ -37,7 +37,7 @@ unfolding decode _and_
 returns-2 c =
     let c-4 = c .before .before .before .before in
     let pre = c-4 .before .before .before .pre in
-    let plain = plain-has (pre .1 .opened) _ (pre .0) (c-4 .get .ensures) (c .before .before .has .ensures) in
+    let plain = plain-has (pre .1 .given .opened) _ (pre .0) (c-4 .get .ensures) (c .before .before .has .ensures) in
     own-told _ _ _ _ _ _ _ refl (c .before .before .before .of-row .ensures) plain (c .before .is-blank .ensures) (c .if1 .left)
 
 pub chosen-at-spec : {M : Type 1} → statement M

@@ -4,7 +4,7 @@ use Rattle.sets_choice.proofs.is_candidate.Statement.{statement}
 use Rattle.sets_choice.proofs.is_candidate.Tie as tie
 
 missed-requires : tie.Need-missed-requires
-missed-requires c κs = let p = c .before .pre .1 in (member-in _ (p .earlier) (c .before .pre .0) .0, p .there, p .fit, p .rows, p .room, p .judging)
+missed-requires c κs = let p = c .before .pre .1 in (record { first = member-in _ (p .earlier) (c .before .pre .0) .0; second = p .reader .low }, p .judged)
 
 returns : tie.Need-returns
 returns c = candidate-missed (c .before .before .before .pre .1) _ _ (c .before .missed .ensures) (c .if1 .taken)

@@ -21,9 +21,9 @@ abbrev μ-loop : tie.MeasureT-loop
 get-requires : tie.Need-get-requires Inv-loop μ-loop
 get-requires c κs =
     let pre = c .before .pre in
-    let e = pre .1 .rows in
-    let f = pre .1 .fit .few in
-    let r = pre .1 .room in
+    let e = pre .1 .judged .fitting .rows in
+    let f = pre .1 .judged .fitting .fit .few in
+    let r = pre .1 .judged .fitting .room in
     omega (arith, pre .0, e, f, r)
 
 returns : tie.Need-returns Inv-loop μ-loop
@@ -37,9 +37,9 @@ get-requires-2 : tie.Need-get-requires-2 Inv-loop μ-loop
 get-requires-2 c κs =
     let c-4 = c .before .before .before .before in
     let pre = c-4 .before .pre in
-    let e = pre .1 .rows in
-    let f = pre .1 .fit .few in
-    let r = pre .1 .room in
+    let e = pre .1 .judged .fitting .rows in
+    let f = pre .1 .judged .fitting .fit .few in
+    let r = pre .1 .judged .fitting .room in
     omega (arith, pre .0, e, f, r)
 
 loop-holds : tie.Need-loop-holds Inv-loop μ-loop
@@ -66,7 +66,7 @@ overwrites-requires c κs =
     let rows = some-rows (pre .1) (pre .0) (c-4 .before .before .get2 .ensures) (c-4 .before .and2 .ensures) in
     let m = member-in _ rows (walk-in (c-4 .loop .inv .0) (c .before .first .ensures)) in
     let p = pre .1 in
-    (pre .0, m .0, p .there, p .fit, p .rows, p .room, p .judging)
+    (record { first = pre .0; second = m .0; third = p .reader .low }, p .judged)
 
 returns-2 : tie.Need-returns-2 Inv-loop μ-loop
 returns-2 c =

@@ -20,12 +20,12 @@ abbrev μ-loop : tie.MeasureT-loop
 get-requires : tie.Need-get-requires Inv-loop μ-loop
 get-requires c κs =
     let pre = c .before .before .before .pre in
-    let b = few (pre .1 .opened) in
-    let r = pre .1 .room in
+    let b = few (pre .1 .given .opened) in
+    let r = pre .1 .given .room in
     omega (arith, pre .0, b, r)
 
 rows-requires : tie.Need-rows-requires Inv-loop μ-loop
-rows-requires c κs = let a = c .before .before .before .before .pre .1 .opened .space in omega arith
+rows-requires c κs = let a = c .before .before .before .before .pre .1 .given .opened .space in omega arith
 
 loop-holds : tie.Need-loop-holds Inv-loop μ-loop
 loop-holds c = sift-begin _ _ _ (c .before .before .before .none .ensures)
@@ -40,14 +40,14 @@ get-requires-2 : tie.Need-get-requires-2 Inv-loop μ-loop
 get-requires-2 c κs =
     let c-4 = c .before .before .before .before in
     let c-8 = c-4 .before .before .before .before in
-    let b = c .before .first .ensures .bound in let r = c-8 .before .before .before .pre .1 .room in omega (arith, b, r)
+    let b = c .before .first .ensures .bound in let r = c-8 .before .before .before .pre .1 .given .room in omega (arith, b, r)
 
 has-requires : tie.Need-has-requires Inv-loop μ-loop
 has-requires c κs =
     let c-4 = c .before .before .before .before in
     let c-8 = c-4 .before .before .before .before in
     let c-12 = c-8 .before .before .before .before in
-    let b = few (c-12 .pre .1 .opened) in omega (arith, c-12 .pre .0, b)
+    let b = few (c-12 .pre .1 .given .opened) in omega (arith, c-12 .pre .0, b)
 
 bit-requires : tie.Need-bit-requires Inv-loop μ-loop
 bit-requires c κs = c .before .before .before .first .ensures .bound
@@ -70,7 +70,7 @@ returns c =
     let c-8 = c-4 .before .before .before .before in
     let pre = c-8 .before .pre in
     let sifted = sift-end _ _ _ _ (sym (c .before .some .ensures) ∙ c .if1 .left) (c .before .before .loop .inv .1) in
-    writers-rows (pre .1 .opened) (pre .2) _ _ _ _ _ (pre .0) (c-4 .before .get .ensures) (c-4 .rows .ensures) (c .before .before .before .and .ensures) sifted
+    writers-rows (pre .1 .given .opened) (pre .1 .judging) _ _ _ _ _ (pre .0) (c-4 .before .get .ensures) (c-4 .rows .ensures) (c .before .before .before .and .ensures) sifted
 
 pub writers-before-spec : {M : Type 1} → statement M
 writers-before-spec =

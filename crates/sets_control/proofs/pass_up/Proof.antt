@@ -20,7 +20,7 @@ abbrev μ-loop : tie.MeasureT-loop
 
 loop-holds : tie.Need-loop-holds Inv-loop μ-loop
 unfolding decode
-loop-holds c = (search needs, refl, refl, pass-begin _ _ _ (c .before .before .before .pre .2 .opened .rows) (c .before .before .before .pre .1), within-refl _ _ _)
+loop-holds c = (search needs, refl, refl, pass-begin _ _ _ (c .before .before .before .pre .2 .opened .rows) (c .before .before .before .pre .0) (c .before .before .before .pre .1), within-refl _ _ _)
 
 pass-row-requires : tie.Need-pass-row-requires Inv-loop μ-loop
 pass-row-requires c κs =
@@ -28,7 +28,7 @@ pass-row-requires c κs =
     let inv = c .before .before .before .loop .inv in
     let a = c .before .before .loop-test .taken in
     let e : c .before .before .before .loop .a - 1 + 1 ≡ c .before .before .before .loop .a = omega arith in
-    (omega (arith, inv .0), omega (arith, inv .1, c-4 .before .before .before .pre .0), given-kept (inv .4) (c-4 .before .before .before .pre .2), passing-at e (inv .3))
+    (omega (arith, inv .0), given-kept (inv .4) (c-4 .before .before .before .pre .2), passing-at e (inv .3))
 
 loop-again : tie.Need-loop-again Inv-loop μ-loop
 loop-again c =

@@ -11,7 +11,7 @@ returns c =
     let c-12 = c-8 .before .before .before .before in
     let pre = c-12 .before .before .pre in
     let below = c-8 .before .before .before .if1 .taken in
-    reads-row _ _ (omega (arith, pre .0, pre .1)) (omega (arith, below, pre .1)) below (c-8 .before .get .ensures) (c-8 .drop .ensures) (c-4 .before .before .join .ensures) (c .before .before .put-bit .ensures)
+    reads-row _ _ (omega (arith, pre .0, pre .1 .few)) (omega (arith, below, pre .1 .few)) below (c-8 .before .get .ensures) (c-8 .drop .ensures) (c-4 .before .before .join .ensures) (c .before .before .put-bit .ensures)
 
 returns-2 : tie.Need-returns-2
 returns-2 c =
@@ -19,7 +19,7 @@ returns-2 c =
     let c-8 = c-4 .before .before .before .before in
     let c-12 = c-8 .before .before .before .before in
     let pre = c-12 .pre in
-    reads-none _ _ _ _ (omega (arith, pre .0, pre .1)) (c-8 .before .if1 .left) (c-4 .before .before .before .get2 .ensures) (c-4 .before .before .rows .ensures) (c-4 .before .and .ensures) (c .before .before .before .drop2 .ensures) (c .before .before .join2 .ensures)
+    reads-none _ _ _ _ (omega (arith, pre .0, pre .1 .few)) (c-8 .before .if1 .left) (c-4 .before .before .before .get2 .ensures) (c-4 .before .before .rows .ensures) (c-4 .before .and .ensures) (c .before .before .before .drop2 .ensures) (c .before .before .join2 .ensures)
 
 pub put-reads-spec : {M : Type 1} → statement M
 put-reads-spec = tie.close (tie.spec (λ c κs. search needs) (λ c κs. search needs) (λ c κs. search needs) (λ c κs. search needs) (λ c. search needs) returns

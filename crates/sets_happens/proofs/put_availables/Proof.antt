@@ -56,7 +56,7 @@ loop-again c =
     let low = c-4 .before .first .ensures in
     let rest = c-4 .but-first .ensures in
     let put = c .before .before .put-available .ensures in
-    (add-turn _ _ _ _ (inv .0) low rest (puts-adds (λ j. row-before _ _ _ _ (inv .0) low j ∙ c-12 .pre .1 .is _ j (low .bound)) (put .rows)), add-turn _ _ _ _ (inv .1) low rest (puts-adds (λ j. row-before _ _ _ _ (inv .1) low j ∙ c-12 .pre .2 .is _ j (low .bound)) (put .visibles)), add-turn _ _ _ _ (inv .2) low rest (puts-adds (λ j. row-before _ _ _ _ (inv .2) low j ∙ c-12 .pre .3 .is _ j (low .bound)) (put .availables)), within-trans (inv .3) (put .frame))
+    (add-turn _ _ _ _ (inv .0) low rest (puts-adds (λ j. row-before _ _ _ _ (inv .0) low j ∙ c-12 .pre .1 .rows .is _ j (low .bound)) (put .rows)), add-turn _ _ _ _ (inv .1) low rest (puts-adds (λ j. row-before _ _ _ _ (inv .1) low j ∙ c-12 .pre .1 .visibles .is _ j (low .bound)) (put .visibles)), add-turn _ _ _ _ (inv .2) low rest (puts-adds (λ j. row-before _ _ _ _ (inv .2) low j ∙ c-12 .pre .1 .availables .is _ j (low .bound)) (put .availables)), within-trans (inv .3) (put .frame))
 
 same-length : tie.Need-same-length Inv-loop μ-loop
 same-length c = c .before .before .loop .inv .3 .len
@@ -69,9 +69,9 @@ returns c =
     let few = given-few (c-4 .before .before .pre .0) in
     let set = available-set (c-4 .before .before .pre .0 .opened) (c .before .before .before .rows .ensures) in
     record {
-      rows = made-grid _ _ few set (λ i j l m. available-rows-order _ o i j l m) _ (sym (c .before .some .ensures) ∙ c .if1 .left) (inv .0) (c-4 .before .before .pre .1);
-      visibles = made-grid _ _ few set (λ i j l m. available-visibles-order _ o i j l m) _ (sym (c .before .some .ensures) ∙ c .if1 .left) (inv .1) (c-4 .before .before .pre .2);
-      availables = made-grid _ _ few set (λ i j l m. availables-order _ o i j l m) _ (sym (c .before .some .ensures) ∙ c .if1 .left) (inv .2) (c-4 .before .before .pre .3);
+      rows = made-grid _ _ few set (λ i j l m. available-rows-order _ o i j l m) _ (sym (c .before .some .ensures) ∙ c .if1 .left) (inv .0) (c-4 .before .before .pre .1 .rows);
+      visibles = made-grid _ _ few set (λ i j l m. available-visibles-order _ o i j l m) _ (sym (c .before .some .ensures) ∙ c .if1 .left) (inv .1) (c-4 .before .before .pre .1 .visibles);
+      availables = made-grid _ _ few set (λ i j l m. availables-order _ o i j l m) _ (sym (c .before .some .ensures) ∙ c .if1 .left) (inv .2) (c-4 .before .before .pre .1 .availables);
       frame = inv .3;
     }
 

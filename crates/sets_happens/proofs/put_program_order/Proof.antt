@@ -18,7 +18,11 @@ put-availables-requires : tie.Need-put-availables-requires
 put-availables-requires c κs =
     let c-4 = c .before .before .before .before in
     let c-8 = c-4 .before .before .before .before in
-    (given-kept (c .before .before .before .put-rows .ensures .frame) (given-kept (within-cleared HAPPENS HAPPENS-END (omega arith) (c-4 .before .before .before .clear .ensures)) (c-8 .before .before .before .pre)), empty-kept (λ o. omega arith) (c .before .before .before .put-rows .ensures .frame) (empty-cleared AVAILABLE-AT HAPPENS HAPPENS-END _ (omega arith) (omega arith) (let a = c-8 .before .before .before .pre .room in omega arith) (c-4 .before .before .before .clear .ensures)), empty-kept (λ o. omega arith) (c .before .before .before .put-rows .ensures .frame) (empty-cleared AVAILABLE-VISIBLE HAPPENS HAPPENS-END _ (omega arith) (omega arith) (let a = c-8 .before .before .before .pre .room in omega arith) (c-4 .before .before .before .clear .ensures)), empty-kept (λ o. omega arith) (c .before .before .before .put-rows .ensures .frame) (empty-cleared AVAILABLE-AVAILABLE HAPPENS HAPPENS-END _ (omega arith) (omega arith) (let a = c-8 .before .before .before .pre .room in omega arith) (c-4 .before .before .before .clear .ensures)))
+    let pre = c-8 .before .before .before .pre in
+    let cleared = c-4 .before .before .before .clear .ensures in
+    let put = c .before .before .before .put-rows .ensures .frame in
+    let room = pre .room in
+    (given-kept put (given-kept (within-cleared HAPPENS HAPPENS-END (omega arith) cleared) pre), record { rows = empty-kept (λ o. omega arith) put (empty-cleared AVAILABLE-AT HAPPENS HAPPENS-END _ (omega arith) (omega arith) (omega (arith, room)) cleared); visibles = empty-kept (λ o. omega arith) put (empty-cleared AVAILABLE-VISIBLE HAPPENS HAPPENS-END _ (omega arith) (omega arith) (omega (arith, room)) cleared); availables = empty-kept (λ o. omega arith) put (empty-cleared AVAILABLE-AVAILABLE HAPPENS HAPPENS-END _ (omega arith) (omega arith) (omega (arith, room)) cleared) })
 
 put-visibles-requires : tie.Need-put-visibles-requires
 put-visibles-requires c κs =

@@ -71,7 +71,7 @@ place-row-requires c κs =
     let inv = c-4 .before .loop .inv in
     let pos = c-4 .loop-test .taken in
     let o = c-20 .pre .0 .opened in
-    (omega (arith, inv .0, pos), access-is o _ (omega (arith, inv .0, pos)) _ _ _ (c-8 .before .rows .ensures) (c .before .before .before .has .ensures) (c .before .before .if1 .taken), inv .1 .given, inv .1 .locating, omega (arith, inv .2), carried-at pos (inv .3), filled-empty (omega (arith, inv .0, pos)) (filled-at pos (inv .1)))
+    (access-is o _ (omega (arith, inv .0, pos)) _ _ _ (c-8 .before .rows .ensures) (c .before .before .before .has .ensures) (c .before .before .if1 .taken), inv .1 .from, record { low = omega (arith, inv .0, pos); carried = carried-at pos (inv .3); empty = filled-empty (omega (arith, inv .0, pos)) (filled-at pos (inv .1)) })
 
 joined : (c : tie.Joined1 Inv-loop μ-loop) →
     let c-4 = c .before .before .before .before in
@@ -116,7 +116,7 @@ carry-back-requires c κs =
     let pos = c-4 .before .before .loop-test .taken in
     let o = c-20 .before .before .pre .0 .opened in
     let f = joined (c-4) in
-    (omega (arith, inv .0, pos), widely o _ (omega (arith, inv .0, pos)) _ _ _ _ (c-8 .before .before .rows2 .ensures) (c-8 .before .rows3 .ensures) (c-8 .less .ensures) (c .before .before .before .has2 .ensures) (c .before .before .if2 .taken), o .fit, f .given .room, f .locating .available, omega (arith, inv .2), carried-at pos (inv .3))
+    (o .fit, record { low = omega (arith, inv .0, pos); widely = widely o _ (omega (arith, inv .0, pos)) _ _ _ _ (c-8 .before .before .rows2 .ensures) (c-8 .before .rows3 .ensures) (c-8 .less .ensures) (c .before .before .before .has2 .ensures) (c .before .before .if2 .taken); room = f .from .given .room; available = f .from .locating .available }, carried-at pos (inv .3))
 
 loop-less : tie.Need-loop-less Inv-loop μ-loop
 loop-less c =

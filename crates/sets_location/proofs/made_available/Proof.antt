@@ -19,44 +19,44 @@ abbrev μ-loop : tie.MeasureT-loop
 μ-loop t n s x made w k to₀ by₀ parts₀ left₀ to by parts left = ROWS - next left
 
 agent-requires : tie.Need-agent-requires Inv-loop μ-loop
-agent-requires c κs = let b = few (c .before .before .before .pre .2 .opened) in omega (arith, c .before .before .before .pre .0, b)
+agent-requires c κs = let b = few (c .before .before .before .pre .1 .given .opened) in omega (arith, c .before .before .before .pre .0 .low, b)
 
 mul-k : tie.Need-mul-k Inv-loop μ-loop
 unfolding decode
-mul-k c = omega (arith, agent-code (c .before .before .before .before .pre .2 .opened) (c .before .before .before .before .pre .0) (c .agent .ensures))
+mul-k c = omega (arith, agent-code (c .before .before .before .before .pre .1 .given .opened) (c .before .before .before .before .pre .0 .low) (c .agent .ensures))
 
 class-requires : tie.Need-class-requires Inv-loop μ-loop
-class-requires c κs = let b = few (c .before .before .before .before .pre .2 .opened) in omega (arith, c .before .before .before .before .pre .0, b)
+class-requires c κs = let b = few (c .before .before .before .before .pre .1 .given .opened) in omega (arith, c .before .before .before .before .pre .0 .low, b)
 
 add-k : tie.Need-add-k Inv-loop μ-loop
 unfolding decode
 add-k c =
     let c-4 = c .before .before .before .before in
-    omega (arith, agent-code (c-4 .before .pre .2 .opened) (c-4 .before .pre .0) (c .before .agent .ensures), class-code (c-4 .before .pre .2 .opened) (c-4 .before .pre .0) (c-4 .before .pre .1) (c .class .ensures))
+    omega (arith, agent-code (c-4 .before .pre .1 .given .opened) (c-4 .before .pre .0 .low) (c .before .agent .ensures), class-code (c-4 .before .pre .1 .given .opened) (c-4 .before .pre .0 .low) (c-4 .before .pre .0 .is) (c .class .ensures))
 
 get-requires : tie.Need-get-requires Inv-loop μ-loop
 unfolding decode
 get-requires c κs =
     let c-4 = c .before .before .before .before in
-    omega (arith, c-4 .before .pre .4, agent-code (c-4 .before .pre .2 .opened) (c-4 .before .pre .0) (c .before .agent .ensures), class-code (c-4 .before .pre .2 .opened) (c-4 .before .pre .0) (c-4 .before .pre .1) (c .class .ensures))
+    omega (arith, c-4 .before .pre .2 .room, agent-code (c-4 .before .pre .1 .given .opened) (c-4 .before .pre .0 .low) (c .before .agent .ensures), class-code (c-4 .before .pre .1 .given .opened) (c-4 .before .pre .0 .low) (c-4 .before .pre .0 .is) (c .class .ensures))
 
 add-get : tie.Need-add-get Inv-loop μ-loop
 unfolding decode
 add-get c =
     let c-4 = c .before .before .before .before in
-    omega (arith, agent-code (c-4 .before .before .pre .2 .opened) (c-4 .before .before .pre .0) (c .before .before .agent .ensures), class-code (c-4 .before .before .pre .2 .opened) (c-4 .before .before .pre .0) (c-4 .before .before .pre .1) (c .before .class .ensures))
+    omega (arith, agent-code (c-4 .before .before .pre .1 .given .opened) (c-4 .before .before .pre .0 .low) (c .before .before .agent .ensures), class-code (c-4 .before .before .pre .1 .given .opened) (c-4 .before .before .pre .0 .low) (c-4 .before .before .pre .0 .is) (c .before .class .ensures))
 
 get-requires-2 : tie.Need-get-requires-2 Inv-loop μ-loop
 unfolding decode
 get-requires-2 c κs =
     let c-4 = c .before .before .before .before in
-    omega (arith, c-4 .before .before .pre .4, agent-code (c-4 .before .before .pre .2 .opened) (c-4 .before .before .pre .0) (c .before .before .agent .ensures), class-code (c-4 .before .before .pre .2 .opened) (c-4 .before .before .pre .0) (c-4 .before .before .pre .1) (c .before .class .ensures))
+    omega (arith, c-4 .before .before .pre .2 .room, agent-code (c-4 .before .before .pre .1 .given .opened) (c-4 .before .before .pre .0 .low) (c .before .before .agent .ensures), class-code (c-4 .before .before .pre .1 .given .opened) (c-4 .before .before .pre .0 .low) (c-4 .before .before .pre .0 .is) (c .before .class .ensures))
 
 plain-available-requires : tie.Need-plain-available-requires Inv-loop μ-loop
 plain-available-requires c κs =
     let c-4 = c .before .before .before .before in
     let c-8 = c-4 .before .before .before .before in
-    (c-8 .pre .0, c-8 .pre .1, c-8 .pre .2, c-8 .pre .3)
+    (c-8 .pre .0, c-8 .pre .1)
 
 loop-holds : tie.Need-loop-holds Inv-loop μ-loop
 loop-holds c = grasp-begin _ _ _ _ _ _ _
@@ -72,7 +72,7 @@ covers-requires c κs =
     let c-4 = c .before .before .before .before in
     let c-8 = c-4 .before .before .before .before in
     let c-12 = c-8 .before .before .before .before in
-    let b = few (c-12 .before .before .pre .2 .opened) in (c .before .first .ensures .bound, omega (arith, c-12 .before .before .pre .0, b))
+    let b = few (c-12 .before .before .pre .1 .given .opened) in (c .before .first .ensures .bound, omega (arith, c-12 .before .before .pre .0 .low, b))
 
 get-requires-3 : tie.Need-get-requires-3 Inv-loop μ-loop
 get-requires-3 c κs =
@@ -80,7 +80,7 @@ get-requires-3 c κs =
     let c-8 = c-4 .before .before .before .before in
     let c-12 = c-8 .before .before .before .before in
     let c-16 = c-12 .before .before .before .before in
-    omega (arith, c .before .before .before .first .ensures .bound, c-16 .pre .2 .room)
+    omega (arith, c .before .before .before .first .ensures .bound, c-16 .pre .1 .given .room)
 
 get-requires-4 : tie.Need-get-requires-4 Inv-loop μ-loop
 get-requires-4 c κs =
@@ -88,7 +88,7 @@ get-requires-4 c κs =
     let c-8 = c-4 .before .before .before .before in
     let c-12 = c-8 .before .before .before .before in
     let c-16 = c-12 .before .before .before .before in
-    omega (arith, c-4 .before .first .ensures .bound, c-16 .before .before .pre .2 .room)
+    omega (arith, c-4 .before .first .ensures .bound, c-16 .before .before .pre .1 .given .room)
 
 loop-less : tie.Need-loop-less Inv-loop μ-loop
 loop-less c =
@@ -123,7 +123,7 @@ returns c =
     let c-4 = c .before .before .before .before in
     let c-8 = c-4 .before .before .before .before in
     let c-12 = c-8 .before .before .before .before in
-    grasp-end (c-12 .pre .2 .opened) _ (c-12 .pre .0) (c .before .before .before .plain-available .ensures) _ _ (c-12 .pre .3) (c-12 .pre .5) (c-12 .pre .1) (c-8 .agent .ensures) (c-4 .before .before .before .class .ensures) (c-4 .before .before .get .ensures) (c-4 .before .get2 .ensures) (c-4 .none .ensures) (grasp-all _ _ _ _ _ _ _ _ _ _ _ (sym (c .before .some .ensures) ∙ c .if1 .left) (c .before .before .loop .inv .1))
+    grasp-end (c-12 .pre .1 .given .opened) _ (c-12 .pre .0 .low) (c .before .before .before .plain-available .ensures) _ _ (c-12 .pre .1 .locating) (c-12 .pre .2) (c-12 .pre .0 .is) (c-8 .agent .ensures) (c-4 .before .before .before .class .ensures) (c-4 .before .before .get .ensures) (c-4 .before .get2 .ensures) (c-4 .none .ensures) (grasp-all _ _ _ _ _ _ _ _ _ _ _ (sym (c .before .some .ensures) ∙ c .if1 .left) (c .before .before .loop .inv .1))
 
 pub made-available-spec : {M : Type 1} → statement M
 made-available-spec =

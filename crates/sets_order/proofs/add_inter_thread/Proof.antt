@@ -13,32 +13,32 @@ use Rattle.sets_order.proofs.add_inter_thread.Statement.{statement}
 use Rattle.sets_order.proofs.add_inter_thread.Tie as tie
 
 of-classes-requires : tie.Need-of-classes-requires
-of-classes-requires c κs = (c .before .before .pre .0, c .before .before .pre .1, c .before .before .pre .2 .told, c .before .before .pre .2 .given .opened)
+of-classes-requires c κs = (c .before .before .pre .0, c .before .before .pre .1 .told, c .before .before .pre .1 .given .opened)
 
 is-synced-requires : tie.Need-is-synced-requires
 is-synced-requires c κs =
     let c-4 = c .before .before .before .before in
-    (c-4 .before .pre .2 .given, c-4 .before .pre .2 .syncs, λ j e. member-in j (c .before .before .of-classes .ensures .releases) e .0)
+    (c-4 .before .pre .1 .given, c-4 .before .pre .1 .syncs, λ j e. member-in j (c .before .before .of-classes .ensures .releases) e .0)
 
 returns : tie.Need-returns
 returns c =
     let c-4 = c .before .before .before .before in
     let b = off-both _ _ (not-true _ (c .if1 .taken)) in
-    inter-quiet (c-4 .before .before .before .pre .2 .given .opened .rows) (c-4 .before .before .before .pre .0) (c-4 .before .before .before .pre .1)
-    (calm (c-4 .before .before .before .pre .2 .given .opened .rows) (given-few (c-4 .before .before .before .pre .2 .given)) (c-4 .before .before .before .pre .2 .told) (c-4 .of-classes .ensures) (sym (c .before .before .before .some .ensures) ∙ b .0) (sym (c .before .is-synced .ensures) ∙ b .1))
+    inter-quiet (c-4 .before .before .before .pre .1 .given .opened .rows) (c-4 .before .before .before .pre .0 .some) (c-4 .before .before .before .pre .0 .low)
+    (calm (c-4 .before .before .before .pre .1 .given .opened .rows) (given-few (c-4 .before .before .before .pre .1 .given)) (c-4 .before .before .before .pre .1 .told) (c-4 .of-classes .ensures) (sym (c .before .before .before .some .ensures) ∙ b .0) (sym (c .before .is-synced .ensures) ∙ b .1))
 
 fill-reach-requires : tie.Need-fill-reach-requires
 fill-reach-requires c κs =
     let c-4 = c .before .before .before .before in
     let c-8 = c-4 .before .before .before .before in
-    asks-of (c-8 .pre .2) (c-4 .before .of-classes .ensures)
+    asks-of (c-8 .pre .1) (c-4 .before .of-classes .ensures)
 
 add-at-requires : tie.Need-add-at-requires
 add-at-requires c κs =
     let c-4 = c .before .before .before .before in
     let c-8 = c-4 .before .before .before .before in
     let c-12 = c-8 .before .before .before .before in
-    reached-of (c-12 .pre .2) (c-8 .before .of-classes .ensures) (c .before .before .before .fill-reach .ensures)
+    reached-of (c-12 .pre .1) (c-8 .before .of-classes .ensures) (c .before .before .before .fill-reach .ensures)
 
 add-available-requires : tie.Need-add-available-requires
 add-available-requires c κs =
@@ -46,7 +46,7 @@ add-available-requires c κs =
     let c-8 = c-4 .before .before .before .before in
     let c-12 = c-8 .before .before .before .before in
     let c-16 = c-12 .before .before .before .before in
-    reached-kept (within-widen HAPPENS HAPPENS-END (omega arith) (omega arith) (c .before .before .before .add-at .ensures .frame)) (reached-of (c-16 .pre .2) (c-12 .before .of-classes .ensures) (c-4 .before .before .before .fill-reach .ensures))
+    reached-kept (within-widen HAPPENS HAPPENS-END (omega arith) (omega arith) (c .before .before .before .add-at .ensures .frame)) (reached-of (c-16 .pre .1) (c-12 .before .of-classes .ensures) (c-4 .before .before .before .fill-reach .ensures))
 
 add-visible-requires : tie.Need-add-visible-requires
 add-visible-requires c κs =
@@ -55,7 +55,7 @@ add-visible-requires c κs =
     let c-12 = c-8 .before .before .before .before in
     let c-16 = c-12 .before .before .before .before in
     let c-20 = c-16 .before .before .before .before in
-    reached-kept (within-widen HAPPENS HAPPENS-END (omega arith) (omega arith) (c .before .before .before .add-available .ensures .rows .frame)) (reached-kept (within-widen HAPPENS HAPPENS-END (omega arith) (omega arith) (c-4 .before .before .before .add-at .ensures .frame)) (reached-of (c-20 .pre .2) (c-16 .before .of-classes .ensures) (c-8 .before .before .before .fill-reach .ensures)))
+    reached-kept (within-widen HAPPENS HAPPENS-END (omega arith) (omega arith) (c .before .before .before .add-available .ensures .rows .frame)) (reached-kept (within-widen HAPPENS HAPPENS-END (omega arith) (omega arith) (c-4 .before .before .before .add-at .ensures .frame)) (reached-of (c-20 .pre .1) (c-16 .before .of-classes .ensures) (c-8 .before .before .before .fill-reach .ensures)))
 
 same-length-2 : tie.Need-same-length-2
 same-length-2 c =
@@ -71,7 +71,7 @@ returns-2 c =
     let c-12 = c-8 .before .before .before .before in
     let c-16 = c-12 .before .before .before .before in
     let c-20 = c-16 .before .before .before .before in
-    inter-added (given-few (c-20 .before .before .before .pre .2 .given)) (c-20 .before .before .before .pre .0) (c-20 .before .before .before .pre .1) (c-12 .before .before .fill-reach .ensures .frame) (c-8 .before .before .add-at .ensures) (c-4 .before .before .add-available .ensures) (c .before .before .add-visible .ensures)
+    inter-added (given-few (c-20 .before .before .before .pre .1 .given)) (c-20 .before .before .before .pre .0 .some) (c-20 .before .before .before .pre .0 .low) (c-12 .before .before .fill-reach .ensures .frame) (c-8 .before .before .add-at .ensures) (c-4 .before .before .add-available .ensures) (c .before .before .add-visible .ensures)
 
 pub add-inter-thread-spec : {M : Type 1} → statement M
 add-inter-thread-spec = tie.close (tie.spec of-classes-requires (λ c κs. search needs) is-synced-requires (λ c. search needs) returns fill-reach-requires add-at-requires

@@ -30,7 +30,7 @@ add-widest-requires : tie.Need-add-widest-requires Inv-loop μ-loop
 add-widest-requires c κs =
     let c-4 = c .before .before .before .before in
     let c-8 = c-4 .before .before .before .before in
-    (c .before .before .loop .inv .0, c .before .loop-test .taken, leading-kept (within-trans (within-widen HAPPENS REACH-END (omega arith) (omega arith) (c-4 .before .put-program-order .ensures .frame)) (c .before .before .loop .inv .4)) (c .before .before .loop .inv .3) (c-8 .before .pre))
+    (record { some = c .before .before .loop .inv .0; low = c .before .loop-test .taken }, leading-kept (within-trans (within-widen HAPPENS REACH-END (omega arith) (omega arith) (c-4 .before .put-program-order .ensures .frame)) (c .before .before .loop .inv .4)) (c .before .before .loop .inv .3) (c-8 .before .pre))
 
 loop-again : tie.Need-loop-again Inv-loop μ-loop
 loop-again c =

@@ -85,5 +85,6 @@ returns c =
 pub fill-overlaps-spec : {M : Type 1} → statement M
 fill-overlaps-spec =
     tie.close
-    (tie.spec Inv-loop μ-loop (λ c. search needs) meet-requires (λ c κs. search needs) rows-requires loop-holds (λ c κs. search needs) first-requires
-    but-first-requires (λ c. search needs) overlap-row-requires (λ c κs. search needs) loop-less loop-again (λ c. search needs) returns)
+    (tie.spec Inv-loop μ-loop (λ c. search needs) meet-requires (λ c κs. search needs) rows-requires loop-holds (λ c κs. search needs)
+    first-requires but-first-requires (λ c. search needs) overlap-row-requires (λ c κs. search needs) loop-less loop-again
+    (λ c. search needs) returns)

@@ -1,5 +1,4 @@
 use native.Mathlib.Omega.{arith}
-use Rattle.model.specs.Limits.{ROWS}
 use Rattle.model.specs.Table.{decode}
 use Rattle.sets_of_table.specs.Ask.{few}
 use Rattle.sets_overlap.specs.Overlap.{first-here}

@@ -7,8 +7,9 @@ use Rattle.run.specs.Layout.{tableIn}
 use Rattle.sets_of_rows.specs.First.{next}
 use Rattle.sets_of_rows.specs.Walk.{Walk, walk-in, walk-less}
 use Rattle.sets_grids.specs.Filling.{member-in}
+use Rattle.sets_grids.specs.Given.{fitting-few}
 use Rattle.sets_races.specs.Sums.{above, sumBelow, oneOf, tally-begin, tally-turn, tally-end, tally-fits, row-sum, one-fits}
-use Rattle.sets_races.specs.Pair.{judged-few, open-conflict}
+use Rattle.sets_races.specs.Pair.{open-conflict}
 use Rattle.sets_races.specs.Search.{ordered-out, counted-on, counted-off}
 use borrow.Author.Needs.{needs}
 use native.Mathlib.Omega.{arith}
@@ -30,7 +31,7 @@ first-requires c κs = sym (c .before .some .ensures) ∙ c .if1 .taken
 unordered-requires : tie.Need-unordered-requires Inv-loop μ-loop
 unordered-requires c κs =
     let c-4 = c .before .before .before .before in
-    let few = judged-few (c-4 .before .pre .2) in let m = member-in _ (c-4 .before .pre .1) (walk-in (c .before .before .before .loop .inv .0) (c .first .ensures)) in (c-4 .before .pre .0, m .0, open-conflict _ _ _ (m .1), c-4 .before .pre .2)
+    let few = fitting-few (c-4 .before .pre .2 .fitting) in let m = member-in _ (c-4 .before .pre .1) (walk-in (c .before .before .before .loop .inv .0) (c .first .ensures)) in (record { first = c-4 .before .pre .0; second = m .0 }, open-conflict _ _ _ (m .1), c-4 .before .pre .2)
 
 add-count : tie.Need-add-count Inv-loop μ-loop
 add-count c =
@@ -47,7 +48,7 @@ loop-again : tie.Need-loop-again Inv-loop μ-loop
 loop-again c =
     let c-4 = c .before .before .before .before in
     let c-8 = c-4 .before .before .before .before in
-    let few = judged-few (c-8 .pre .2) in let m = member-in _ (c-8 .pre .1) (walk-in (c-4 .before .before .loop .inv .0) (c .before .before .before .first .ensures)) in
+    let few = fitting-few (c-8 .pre .2 .fitting) in let m = member-in _ (c-8 .pre .1) (walk-in (c-4 .before .before .loop .inv .0) (c .before .before .before .first .ensures)) in
     let e =
     ⊎-elim
     (λ v. counted-on _ _ _ _ (c-4 .before .before .loop .count) (c .before .if2 .count) (m .0) (m .1) (c .before .before .unordered .ensures) (v .0 .taken) (v .1))
@@ -57,7 +58,7 @@ loop-again c =
     tally-turn _ _ (ordered-out _ _ _ (c-8 .pre .1)) (c-4 .before .before .loop .inv) (c .before .before .before .first .ensures) (c .but-first .ensures) e
 
 returns : tie.Need-returns Inv-loop μ-loop
-returns c = tally-end _ _ (ordered-out _ _ _ (c .before .before .before .before .pre .1)) _ _ (sym (c .before .some .ensures) ∙ c .if1 .left) (c .before .before .loop .inv .1) ∙ row-sum _ _ _ (judged-few (c .before .before .before .before .pre .2))
+returns c = tally-end _ _ (ordered-out _ _ _ (c .before .before .before .before .pre .1)) _ _ (sym (c .before .some .ensures) ∙ c .if1 .left) (c .before .before .loop .inv .1) ∙ row-sum _ _ _ (fitting-few (c .before .before .before .before .pre .2 .fitting))
 
 pub count-ordered-spec : {M : Type 1} → statement M
 count-ordered-spec = tie.close (tie.spec Inv-loop μ-loop loop-holds (λ c κs. search needs) first-requires unordered-requires add-count but-first-requires loop-less

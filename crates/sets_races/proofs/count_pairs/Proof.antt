@@ -11,9 +11,10 @@ use Rattle.sets_of_rows.specs.Walk.{Walk, walk-in, walk-less}
 use Rattle.sets_of_table.specs.Known.{says-rows}
 use Rattle.sets_grids.specs.Filling.{member-in}
 use Rattle.sets_grids.specs.Given.{given-few}
+use Rattle.sets_grids.specs.Location.{judged}
 use Rattle.sets_grids.specs.Grid.{grid-at}
 use Rattle.sets_races.specs.Sums.{sumBelow, rowCount, tally-begin, tally-turn, tally-end, tally-fits, row-fits, row-most}
-use Rattle.sets_races.specs.Pair.{judged, open-rows}
+use Rattle.sets_races.specs.Pair.{open-rows}
 use Rattle.sets_races.specs.Search.{conflict-off, mutual-off, ordered-off, row-conflicts, row-mutuals, all-counted}
 use borrow.Author.Needs.{needs}
 use native.Mathlib.Omega.{arith}
@@ -30,11 +31,11 @@ abbrev μ-loop : tie.MeasureT-loop
 μ-loop t n s w c₀ left₀ c left = ROWS - next left
 
 rows-requires : tie.Need-rows-requires Inv-loop μ-loop
-rows-requires c κs = let a = c .before .before .pre .0 .opened .space in omega arith
+rows-requires c κs = let a = c .before .before .pre .given .opened .space in omega arith
 
 loop-holds : tie.Need-loop-holds Inv-loop μ-loop
 loop-holds c =
-    let acc = rows-at (c .rows .ensures) (says-rows (c .before .before .before .pre .0 .opened .known .tested .accesses .access)) in
+    let acc = rows-at (c .rows .ensures) (says-rows (c .before .before .before .pre .given .opened .known .tested .accesses .access)) in
     let x = tally-begin _ _ (conflict-off _ _ acc) in
     let y = tally-begin _ _ (mutual-off _ _ acc) in
     let z = tally-begin _ _ (ordered-off _ _ acc) in
@@ -51,14 +52,14 @@ unfolding decode
 conflicting-requires c κs =
     let c-4 = c .before .before .before .before in
     let c-8 = c-4 .before .before .before .before in
-    let acc = rows-at (c-4 .before .rows .ensures) (says-rows (c-8 .pre .0 .opened .known .tested .accesses .access)) in
-    let m = member-in _ acc (walk-in (c-4 .loop .inv .0) (c .before .first .ensures)) in (m .0, m .1, c-8 .pre .0, c-8 .pre .1)
+    let acc = rows-at (c-4 .before .rows .ensures) (says-rows (c-8 .pre .given .opened .known .tested .accesses .access)) in
+    let m = member-in _ acc (walk-in (c-4 .loop .inv .0) (c .before .first .ensures)) in (record { low = m .0; is = m .1 }, c-8 .pre)
 
 get-requires : tie.Need-get-requires Inv-loop μ-loop
 get-requires c κs =
     let c-4 = c .before .before .before .before in
     let c-8 = c-4 .before .before .before .before in
-    let a = c-8 .before .pre .0 .room in let b = c .before .before .first .ensures .bound in omega arith
+    let a = c-8 .before .pre .given .room in let b = c .before .before .first .ensures .bound in omega arith
 
 cast-c : tie.Need-cast-c Inv-loop μ-loop
 cast-c c = let d = c .count .ensures .1 in omega arith
@@ -68,7 +69,7 @@ add-c c =
     let c-4 = c .before .before .before .before in
     let c-8 = c-4 .before .before .before .before in
     let c-12 = c-8 .before .before .before .before in
-    let few = given-few (c-12 .pre .0) in let f = tally-fits ROWS _ (c-8 .loop .inv .1) (c-4 .before .first .ensures) (row-fits _ _ few) in let a = f .0 in let b = f .1 in let d = c .before .count .ensures .1 in omega arith
+    let few = given-few (c-12 .pre .given) in let f = tally-fits ROWS _ (c-8 .loop .inv .1) (c-4 .before .first .ensures) (row-fits _ _ few) in let a = f .0 in let b = f .1 in let d = c .before .count .ensures .1 in omega arith
 
 cast-c-2 : tie.Need-cast-c-2 Inv-loop μ-loop
 cast-c-2 c = let d = c .count2 .ensures .1 in omega arith
@@ -78,7 +79,7 @@ add-c-2 c =
     let c-4 = c .before .before .before .before in
     let c-8 = c-4 .before .before .before .before in
     let c-12 = c-8 .before .before .before .before in
-    let few = given-few (c-12 .before .before .before .pre .0) in let f = tally-fits ROWS _ (c-8 .before .before .before .loop .inv .2) (c-8 .first .ensures) (row-fits _ _ few) in let a = f .0 in let b = f .1 in let d = c .before .count2 .ensures .1 in omega arith
+    let few = given-few (c-12 .before .before .before .pre .given) in let f = tally-fits ROWS _ (c-8 .before .before .before .loop .inv .2) (c-8 .first .ensures) (row-fits _ _ few) in let a = f .0 in let b = f .1 in let d = c .before .count2 .ensures .1 in omega arith
 
 count-ordered-requires : tie.Need-count-ordered-requires Inv-loop μ-loop
 unfolding decode
@@ -87,9 +88,9 @@ count-ordered-requires c κs =
     let c-8 = c-4 .before .before .before .before in
     let c-12 = c-8 .before .before .before .before in
     let c-16 = c-12 .before .before .before .before in
-    let acc = rows-at (c-12 .before .rows .ensures) (says-rows (c-16 .pre .0 .opened .known .tested .accesses .access)) in
+    let acc = rows-at (c-12 .before .rows .ensures) (says-rows (c-16 .pre .given .opened .known .tested .accesses .access)) in
     let m = member-in _ acc (walk-in (c-12 .loop .inv .0) (c-8 .before .first .ensures)) in
-    (m .0, open-rows (c-16 .pre .0) (c-16 .pre .1) (m .0) (m .1) (c-4 .before .before .before .conflicting .ensures) (c-4 .before .before .get .ensures) (c .less .ensures), judged (c-16 .pre .0) (c-16 .pre .1))
+    (m .0, open-rows (c-16 .pre .given) (c-16 .pre .judging) (m .0) (m .1) (c-4 .before .before .before .conflicting .ensures) (c-4 .before .before .get .ensures) (c .less .ensures), judged (c-16 .pre))
 
 add-c-3 : tie.Need-add-c-3 Inv-loop μ-loop
 add-c-3 c =
@@ -97,7 +98,7 @@ add-c-3 c =
     let c-8 = c-4 .before .before .before .before in
     let c-12 = c-8 .before .before .before .before in
     let c-16 = c-12 .before .before .before .before in
-    let few = given-few (c-16 .before .before .pre .0) in let f = tally-fits ROWS _ (c-12 .before .before .loop .inv .3) (c-8 .before .before .before .first .ensures) (row-fits _ _ few) in let a = f .0 in let b = f .1 in let d = row-most _ _ _ _ few (c .before .count-ordered .ensures) in omega arith
+    let few = given-few (c-16 .before .before .pre .given) in let f = tally-fits ROWS _ (c-12 .before .before .loop .inv .3) (c-8 .before .before .before .first .ensures) (row-fits _ _ few) in let a = f .0 in let b = f .1 in let d = row-most _ _ _ _ few (c .before .count-ordered .ensures) in omega arith
 
 loop-less : tie.Need-loop-less Inv-loop μ-loop
 loop-less c =
@@ -111,14 +112,14 @@ loop-again c =
     let c-8 = c-4 .before .before .before .before in
     let c-12 = c-8 .before .before .before .before in
     let c-16 = c-12 .before .before .before .before in
-    let acc = rows-at (c-12 .before .before .before .rows .ensures) (says-rows (c-16 .before .before .pre .0 .opened .known .tested .accesses .access)) in
+    let acc = rows-at (c-12 .before .before .before .rows .ensures) (says-rows (c-16 .before .before .pre .given .opened .known .tested .accesses .access)) in
     let m = member-in _ acc (walk-in (c-12 .before .before .loop .inv .0) (c-8 .before .before .before .first .ensures)) in
-    let few = given-few (c-16 .before .before .pre .0) in
+    let few = given-few (c-16 .before .before .pre .given) in
     let inv = c-12 .before .before .loop .inv in
     let x = tally-turn _ _ (conflict-off _ _ acc) (inv .0, inv .1) (c-8 .before .before .before .first .ensures) (c-8 .before .before .but-first .ensures)
     (ap (λ (z : ℕ). c-12 .before .before .loop .c .conflicting + z) (row-conflicts _ _ _ few (c-8 .before .conflicting .ensures) (c-4 .before .before .before .count .ensures .0))) in
     let y = tally-turn _ _ (mutual-off _ _ acc) (inv .0, inv .2) (c-8 .before .before .before .first .ensures) (c-8 .before .before .but-first .ensures)
-    (ap (λ (z : ℕ). c-12 .before .before .loop .c .mutuals + z) (row-mutuals _ _ _ _ few (c-8 .before .conflicting .ensures) (grid-at (c-16 .before .before .pre .1 .mutuals) (m .0) (c-8 .get .ensures)) (c-4 .before .and .ensures) (c-4 .count2 .ensures .0))) in
+    (ap (λ (z : ℕ). c-12 .before .before .loop .c .mutuals + z) (row-mutuals _ _ _ _ few (c-8 .before .conflicting .ensures) (grid-at (c-16 .before .before .pre .judging .mutuals) (m .0) (c-8 .get .ensures)) (c-4 .before .and .ensures) (c-4 .count2 .ensures .0))) in
     let z = tally-turn _ _ (ordered-off _ _ acc) (inv .0, inv .3) (c-8 .before .before .before .first .ensures) (c-8 .before .before .but-first .ensures)
     (ap (λ (z : ℕ). c-12 .before .before .loop .c .ordered + z) (c .before .count-ordered .ensures)) in
     (x .0, x .1, y .1, z .1)
@@ -126,10 +127,10 @@ loop-again c =
 returns : tie.Need-returns Inv-loop μ-loop
 returns c =
     let c-4 = c .before .before .before .before in
-    let acc = rows-at (c .before .before .before .rows .ensures) (says-rows (c-4 .before .before .pre .0 .opened .known .tested .accesses .access)) in
+    let acc = rows-at (c .before .before .before .rows .ensures) (says-rows (c-4 .before .before .pre .given .opened .known .tested .accesses .access)) in
     let done = sym (c .before .some .ensures) ∙ c .if1 .left in
     let inv = c .before .before .loop .inv in
-    all-counted _ _ (c-4 .before .before .pre .0 .opened .rows) (given-few (c-4 .before .before .pre .0)) (tally-end _ _ (conflict-off _ _ acc) _ _ done (inv .1)) (tally-end _ _ (mutual-off _ _ acc) _ _ done (inv .2)) (tally-end _ _ (ordered-off _ _ acc) _ _ done (inv .3))
+    all-counted _ _ (c-4 .before .before .pre .given .opened .rows) (given-few (c-4 .before .before .pre .given)) (tally-end _ _ (conflict-off _ _ acc) _ _ done (inv .1)) (tally-end _ _ (mutual-off _ _ acc) _ _ done (inv .2)) (tally-end _ _ (ordered-off _ _ acc) _ _ done (inv .3))
 
 pub count-pairs-spec : {M : Type 1} → statement M
 count-pairs-spec = tie.close (tie.spec Inv-loop μ-loop rows-requires loop-holds (λ c κs. search needs) first-requires but-first-requires conflicting-requires

@@ -13,7 +13,8 @@ use Rattle.sets_of_rows.specs.Walk.{Walk, walk-in, walk-less, search-begin, sea
 use Rattle.sets_of_table.specs.Known.{says-rows}
 use Rattle.sets_grids.specs.Filling.{member-in}
 use Rattle.sets_grids.specs.Given.{given-few}
-use Rattle.sets_races.specs.Pair.{judged, open-conflict, byte-at, mask-first}
+use Rattle.sets_grids.specs.Location.{judged}
+use Rattle.sets_races.specs.Pair.{open-conflict, byte-at, mask-first}
 use Rattle.sets_races.specs.Search.{racesIn, hasIn, races-out, race-on, race-off, partner-found, partner-none, has-out, from-none, from-some, row-found, row-none, byte-low, byte-found}
 use borrow.Author.Needs.{needs}
 use Rattle.sets_races.proofs.first_race.Statement.{statement}
@@ -40,11 +41,11 @@ abbrev μ-pairs : tie.MeasureT-pairs
 μ-pairs t n s w answer₀ left₀ answer left = ROWS - next left
 
 rows-requires : tie.Need-rows-requires Inv-loop2 μ-loop2 Inv-loop μ-loop Inv-pairs μ-pairs
-rows-requires c κs = let a = c .before .before .pre .1 .opened .space in omega arith
+rows-requires c κs = let a = c .before .before .pre .given .opened .space in omega arith
 
 pairs-holds : tie.Need-pairs-holds Inv-loop2 μ-loop2 Inv-loop μ-loop Inv-pairs μ-pairs
 pairs-holds c =
-    let acc = rows-at (c .rows .ensures) (says-rows (c .before .before .before .pre .1 .opened .known .tested .accesses .access)) in
+    let acc = rows-at (c .rows .ensures) (says-rows (c .before .before .before .pre .given .opened .known .tested .accesses .access)) in
     let b = search-begin _ _ (has-out _ _ acc) in
     (b .0, b .1, refl)
 
@@ -61,9 +62,9 @@ unfolding decode
 open-after-requires c κs =
     let c-4 = c .before .before .before .before in
     let c-8 = c-4 .before .before .before .before in
-    let acc = rows-at (c-4 .before .rows .ensures) (says-rows (c-8 .pre .1 .opened .known .tested .accesses .access)) in
+    let acc = rows-at (c-4 .before .rows .ensures) (says-rows (c-8 .pre .given .opened .known .tested .accesses .access)) in
     let m = member-in _ acc (walk-in (c-4 .pairs .inv .0) (c .before .first .ensures)) in
-    (m .0, m .1, c-8 .pre .1, c-8 .pre .2)
+    (record { low = m .0; is = m .1 }, c-8 .pre)
 
 loop-holds : tie.Need-loop-holds Inv-loop2 μ-loop2 Inv-loop μ-loop Inv-pairs μ-pairs
 loop-holds c =
@@ -80,8 +81,8 @@ pairs-again c =
     let c-4 = c .before .before .before .before in
     let c-8 = c-4 .before .before .before .before in
     let c-12 = c-8 .before .before .before .before in
-    let acc = rows-at (c-8 .before .rows .ensures) (says-rows (c-12 .pre .1 .opened .known .tested .accesses .access)) in
-    let given = c-12 .pre .1 in
+    let acc = rows-at (c-8 .before .rows .ensures) (says-rows (c-12 .pre .given .opened .known .tested .accesses .access)) in
+    let given = c-12 .pre .given in
     let inv = c-8 .pairs .inv in
     let none = partner-none _ _ _ (given .opened .rows) (given-few given)
     (search-end _ _ (races-out _ _ _ (c .before .before .before .open-after .ensures)) _ (sym (c .before .some2 .ensures) ∙ c .if2 .left) (c .before .before .loop .inv .1)) in
@@ -102,10 +103,10 @@ unordered-requires c κs =
     let c-4 = c .before .before .before .before in
     let c-8 = c-4 .before .before .before .before in
     let c-12 = c-8 .before .before .before .before in
-    let acc = rows-at (c-8 .before .before .before .rows .ensures) (says-rows (c-12 .before .before .pre .1 .opened .known .tested .accesses .access)) in
+    let acc = rows-at (c-8 .before .before .before .rows .ensures) (says-rows (c-12 .before .before .pre .given .opened .known .tested .accesses .access)) in
     let m = member-in _ acc (walk-in (c-8 .before .before .pairs .inv .0) (c-4 .before .before .before .first .ensures)) in
     let o = member-in _ (c-4 .before .open-after .ensures) (walk-in (c-4 .loop .inv .0) (c .before .first2 .ensures)) in
-    (m .0, o .0, open-conflict _ _ _ (o .1), judged (c-12 .before .before .pre .1) (c-12 .before .before .pre .2))
+    (record { first = m .0; second = o .0 }, open-conflict _ _ _ (o .1), judged (c-12 .before .before .pre))
 
 loop-less : tie.Need-loop-less Inv-loop2 μ-loop2 Inv-loop μ-loop Inv-pairs μ-pairs
 loop-less c = walk-less (c .before .before .before .first2 .ensures) (c .before .before .but-first2 .ensures)
@@ -176,12 +177,12 @@ cast-t22 c =
     let c-12 = c-8 .before .before .before .before in
     let c-16 = c-12 .before .before .before .before in
     let c-20 = c-16 .before .before .before .before in
-    let acc = rows-at (c-16 .before .rows .ensures) (says-rows (c-20 .pre .1 .opened .known .tested .accesses .access)) in
+    let acc = rows-at (c-16 .before .rows .ensures) (says-rows (c-20 .pre .given .opened .known .tested .accesses .access)) in
     let m = member-in _ acc (walk-in (c-16 .pairs .inv .0) (c-12 .before .first .ensures)) in
     let l = m .0 in
     let z = c-4 .if3 .left in
     let low = byte-low (c-4 .before .unordered .ensures) (c .before .before .before .loop2 .inv) (omega arith) in
-    let b = byte-at _ _ _ (c-20 .pre .1 .opened .fit) (let r = c-20 .pre .1 .opened .rows in omega arith) (c-4 .before .unordered .ensures) (omega arith) in
+    let b = byte-at _ _ _ (c-20 .pre .given .opened .fit) (let r = c-20 .pre .given .opened .rows in omega arith) (c-4 .before .unordered .ensures) (omega arith) in
     let f = byte-found (c-4 .before .unordered .ensures) (c .before .before .before .loop2 .inv) (sym (c .before .before .is-set .ensures) ∙ c .before .if4 .taken) low in
     let g = mask-first (c-4 .before .unordered .ensures) (omega arith) .1 in
     let s = c .start .ensures .0 in
@@ -190,8 +191,8 @@ cast-t22 c =
 returns : tie.Need-returns Inv-loop2 μ-loop2 Inv-loop μ-loop Inv-pairs μ-pairs
 returns c =
     let c-4 = c .before .before .before .before in
-    let acc = rows-at (c .before .before .before .rows .ensures) (says-rows (c-4 .before .before .pre .1 .opened .known .tested .accesses .access)) in
-    let given = c-4 .before .before .pre .1 in
+    let acc = rows-at (c .before .before .before .rows .ensures) (says-rows (c-4 .before .before .pre .given .opened .known .tested .accesses .access)) in
+    let given = c-4 .before .before .pre .given in
     c .before .before .pairs .inv .2 ∙ row-none _ _ (given .opened .rows) (given-few given) (search-end _ _ (has-out _ _ acc) _ (sym (c .before .some .ensures) ∙ c .if1 .left) (c .before .before .pairs .inv .1))
 
 returns-2 : tie.Need-returns-2 Inv-loop2 μ-loop2 Inv-loop μ-loop Inv-pairs μ-pairs
@@ -202,8 +203,8 @@ returns-2 c =
     let c-12 = c-8 .before .before .before .before in
     let c-16 = c-12 .before .before .before .before in
     let c-20 = c-16 .before .before .before .before in
-    let acc = rows-at (c-16 .before .rows .ensures) (says-rows (c-20 .pre .1 .opened .known .tested .accesses .access)) in
-    let given = c-20 .pre .1 in
+    let acc = rows-at (c-16 .before .rows .ensures) (says-rows (c-20 .pre .given .opened .known .tested .accesses .access)) in
+    let given = c-20 .pre .given in
     let few = given-few given in
     let m = member-in _ acc (walk-in (c-16 .pairs .inv .0) (c-12 .before .first .ensures)) in
     let o = member-in _ (c-8 .before .before .before .open-after .ensures) (walk-in (c-8 .before .before .loop .inv .0) (c-4 .before .before .before .first2 .ensures)) in

@@ -83,7 +83,7 @@ add-head-requires c κs =
     let m = member-in _ (rows-at (c-12 .rows .ensures) (says-rows (o .known .tested .kinds .ranked))) (walk-in (c-8 .before .before .before .loop .inv .1 .0) (c-8 .first .ensures)) in
     let f = within-trans (within-trans (within-cleared HEADS HEADS-END (omega arith) (c-12 .before .before .before .clear .ensures)) (c-8 .before .before .before .loop .inv .0)) (within-widen HEADS HEADS-END (omega arith) (omega arith) (c-4 .before .put-bit .ensures .frame)) in
     let bytes = rw (c-16 .before .before .rows-of .ensures) at (c-16 .before .first-byte .ensures) in
-    (m .0, c .before .end-of .ensures, ranks-of _ _ _ _ bytes, given-kept f (pre .0), grid-kept (λ h. absurd (omega arith)) f (pre .1))
+    (record { low = m .0; ends = c .before .end-of .ensures; ranks = ranks-of _ _ _ _ bytes }, given-kept f (pre .0), grid-kept (λ h. absurd (omega arith)) f (pre .1))
 
 loop-less : tie.Need-loop-less Inv-loop μ-loop
 loop-less c =

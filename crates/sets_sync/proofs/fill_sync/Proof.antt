@@ -54,7 +54,7 @@ sync-row-requires c κs =
     let o = pre .0 .opened in
     let m = member-in _ (rows-at (c-4 .before .before .rows .ensures) (says-rows (o .known .tested .orders .releases))) (walk-in (c-4 .before .loop .inv .1 .walk) (c .before .before .first .ensures)) in
     let f = within-trans (within-cleared SYNC SYNC-END (omega arith) (c-8 .before .clear .ensures)) (c-4 .before .loop .inv .1 .frame) in
-    (m .0, m .1, given-kept f (pre .0), grid-kept (λ h. omega arith) f (pre .1), grid-kept (λ h. omega arith) f (pre .2))
+    (record { low = m .0; is = m .1 }, given-kept f (pre .0), record { taken = grid-kept (λ h. omega arith) f (pre .1 .taken); passed = grid-kept (λ h. omega arith) f (pre .1 .passed) })
 
 loop-less : tie.Need-loop-less Inv-loop μ-loop
 loop-less c =

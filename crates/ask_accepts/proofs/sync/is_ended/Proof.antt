@@ -5,7 +5,7 @@ use Prim.Native.Nat.{_-_, _≤_}
 use native.Mathlib.Omega.{arith}
 use Rattle.finite.specs.Below.{anyBelow, any-none, any-more, any-in}
 use Rattle.model.specs.Synchronizes.{ends}
-use Rattle.run_tests.specs.Forms.{ends-told}
+use Rattle.run_rows.specs.Forms.{ends-told}
 use borrow.Author.Needs.{needs}
 use Rattle.ask_accepts.proofs.sync.is_ended.Statement.{statement}
 use Rattle.ask_accepts.proofs.sync.is_ended.Tie as tie

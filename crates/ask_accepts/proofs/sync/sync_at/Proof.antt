@@ -1,6 +1,6 @@
 use mathlib.Core.Path.{refl}
 use Rattle.finite.specs.Logic.{_and_, _or_}
-use Rattle.run_tests.specs.Forms.{sync-off}
+use Rattle.run_rows.specs.Forms.{sync-off}
 use Rattle.ask_accepts.specs.Syncing.{sync-atomics, sync-from, sync-to, sync-over}
 use borrow.Author.Needs.{needs}
 use Rattle.ask_accepts.proofs.sync.sync_at.Statement.{statement}

@@ -1,7 +1,7 @@
 use mathlib.Core.Path.{sym, _∙_}
 use borrow.Author.Tests.{not-true, not-false}
 use Rattle.finite.specs.Logic.{_and_}
-use Rattle.run_tests.specs.Forms.{takes-apart, takes-none, takes-on}
+use Rattle.run_rows.specs.Forms.{takes-apart, takes-none, takes-on}
 use borrow.Author.Needs.{needs}
 use Rattle.ask_accepts.proofs.sync.takes_from.Statement.{statement}
 use Rattle.ask_accepts.proofs.sync.takes_from.Tie as tie

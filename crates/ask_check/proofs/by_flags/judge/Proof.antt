@@ -1,4 +1,4 @@
-use Rattle.ask_check.specs.Engine.{few-of, bounded-of, ready-of, judges}
+use Rattle.ask_check.specs.Engine.{located, judges}
 use borrow.Author.Needs.{needs}
 use Rattle.ask_check.proofs.by_flags.judge.Statement.{statement}
 use Rattle.ask_check.proofs.by_flags.judge.Tie as tie
@@ -9,7 +9,7 @@ judge-located-requires c κs =
     let c-8 = c-4 .before .before .before .before in
     let pre = c-8 .before .pre in
     let made = c-4 .locate .ensures in
-    (pre .2, pre .3, bounded-of (pre .0 .fit), ready-of (pre .0 .fit) (few-of (pre .0)) (pre .1) (made .1) (made .0))
+    (pre .1 .numbers, pre .2, located (pre .0) (pre .1 .work) made)
 
 returns : tie.Need-returns
 returns c =

@@ -16,8 +16,8 @@ show-cycle-requires c κs =
     let asked = show-asked _ _ _ _ _ _ _ refl
     (c-8 .before .fill-edges .ensures)
     (c-4 .before .cycle-start .ensures .0)
-    (c-4 .before .cycle-start .ensures .1) (pre .3) (c .before .before .if1 .taken) in
-    (asked .0, pre .0, pre .1, asked .1, asked .2, asked .3)
+    (c-4 .before .cycle-start .ensures .1) (pre .2 .ready) (c .before .before .if1 .taken) in
+    (pre .0, pre .1, asked)
 
 cast-t18 : tie.Need-cast-t18
 unfolding decode
@@ -32,7 +32,7 @@ cast-t18 c =
       arith,
       few,
       c-4 .show-cycle .ensures .0,
-      c-16 .before .before .before .pre .3 .0,
+      c-16 .before .before .before .pre .2 .ready .0,
     )
 
 returns : tie.Need-returns
@@ -55,9 +55,7 @@ settle-requires c κs =
     let pre = c-12 .before .pre in
     let start = c-4 .cycle-start .ensures in (
       pre .1,
-      pre .2,
-      known-kept (omega arith) (pre .3)
-          (edges-held (c-8 .fill-edges .ensures) (start .1) .1),
+      record { bounded = pre .2 .bounded; ready = known-kept (omega arith) (pre .2 .ready) (edges-held (c-8 .fill-edges .ensures) (start .1) .1) },
     )
 
 returns-2 : tie.Need-returns-2

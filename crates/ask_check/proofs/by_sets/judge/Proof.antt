@@ -1,4 +1,4 @@
-use Rattle.ask_check.specs.Engine.{given-made, judges}
+use Rattle.ask_check.specs.Engine.{to-judge, judges}
 use borrow.Author.Needs.{needs}
 use Rattle.ask_check.proofs.by_sets.judge.Statement.{statement}
 use Rattle.ask_check.proofs.by_sets.judge.Tie as tie
@@ -10,7 +10,7 @@ judge-located-requires c κs =
     let c-12 = c-8 .before .before .before .before in
     let pre = c-12 .pre in
     let made = c-4 .before .before .locate .ensures in
-    (pre .2, pre .3, pre .4, given-made made (pre .1), made .judging)
+    (pre .1 .numbers, pre .2, to-judge made (pre .1 .work))
 
 returns : tie.Need-returns
 returns c =

@@ -15,8 +15,8 @@ write-rows-requires c κs =
     let c-12 = c-8 .before .before .before .before in
     let pre = c-12 .before .pre in
     let fill = c-8 .fill-until .ensures in
-    let asked = size-asked _ _ _ _ _ _ _ refl (pre .3 .0) (pre .4) fill (pre .5) (pre .0) in
-    let made = layers-asked _ _ _ _ _ _ _ refl (pre .3 .0) (pre .4) fill (pre .5) (pre .0) in
+    let asked = size-asked _ _ _ _ _ _ _ refl (pre .2 .ready .0) (pre .2 .edges) fill (pre .2 .first) (pre .2 .start) in
+    let made = layers-asked _ _ _ _ _ _ _ refl (pre .2 .ready .0) (pre .2 .edges) fill (pre .2 .first) (pre .2 .start) in
     (search needs, record { few = search needs; room = search needs; row = search needs; short = asked .0; made = made; leads = asked .1 })
 
 write-edges-requires : tie.Need-write-edges-requires
@@ -28,14 +28,11 @@ write-edges-requires c κs =
     let c-16 = c-12 .before .before .before .before in
     let pre = c-16 .before .before .pre in
     let fill = c-12 .before .fill-until .ensures in
-    let asked = size-asked _ _ _ _ _ _ _ refl (pre .3 .0) (pre .4) fill (pre .5) (pre .0) in
+    let asked = size-asked _ _ _ _ _ _ _ refl (pre .2 .ready .0) (pre .2 .edges) fill (pre .2 .first) (pre .2 .start) in
     let rows = c-4 .write-rows .ensures in (
+      record { start = pre .2 .start; few = omega (arith, asked .0, pre .2 .ready .0); room = search needs; rows = rows-below _ _ _ _ _ _ _ refl (pre .2 .ready .0) (pre .2 .edges) fill (pre .2 .first) (pre .2 .start) _ _ rows },
       search needs,
-      omega (arith, asked .0, pre .3 .0),
-      search needs,
-      search needs,
-      known-kept (omega arith) (pre .3) (fill .1),
-      rows-below _ _ _ _ _ _ _ refl (pre .3 .0) (pre .4) fill (pre .5) (pre .0) _ _ rows,
+      known-kept (omega arith) (pre .2 .ready) (fill .1),
     )
 
 returns : tie.Need-returns
@@ -51,7 +48,7 @@ returns c =
     let rows = c-4 .before .before .before .write-rows .ensures in
     let clear = c-12 .clear-numbers .ensures in
     let edges = c .before .before .write-edges .ensures in
-    shown-is _ _ _ _ _ _ _ refl (pre .3 .0) (pre .4) fill (pre .5) (pre .0) _ _ rows _ _ (pre .1) clear edges
+    shown-is _ _ _ _ _ _ _ refl (pre .2 .ready .0) (pre .2 .edges) fill (pre .2 .first) (pre .2 .start) _ _ rows _ _ (pre .0) clear edges
 
 pub show-cycle-spec : {M : Type 1} → statement M
 show-cycle-spec =

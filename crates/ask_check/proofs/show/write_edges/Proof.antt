@@ -25,9 +25,9 @@ edge-number-requires c κs =
     let c-8 = c-4 .before .before .before .before in
     let pre = c-8 .before .pre in
     let inv = c-4 .before .loop .inv in
-    let row = row-below _ _ _ _ (c-8 .before .args .x) _ _ _ (inv .2) (pre .1) (omega arith) (pre .5) _ (c .before .before .wide .ensures) in
-    let next = next-below _ _ _ _ _ _ _ _ (inv .2) (pre .1) (omega arith) (pre .5) (pre .0) _ (c .next-of .ensures) in
-    (record { first = row; second = next }, pre .3, pre .4)
+    let row = row-below _ _ _ _ (c-8 .before .args .x) _ _ _ (inv .2) (pre .0 .few) (omega arith) (pre .0 .rows) _ (c .before .before .wide .ensures) in
+    let next = next-below _ _ _ _ _ _ _ _ (inv .2) (pre .0 .few) (omega arith) (pre .0 .rows) (pre .0 .start) _ (c .next-of .ensures) in
+    (record { first = row; second = next }, pre .1, pre .2)
 
 loop-again : tie.Need-loop-again Inv-loop μ-loop
 loop-again c =
@@ -36,7 +36,7 @@ loop-again c =
     let pre = c-8 .before .before .pre in
     let inv = c-4 .before .before .loop .inv in
     let e = step-is _ _ (c-8 .before .before .args .n) _ _ _ _ _
-    (inv .2) (pre .1) (omega arith) _ _ _ _ _ (c .before .before .before .wide .ensures) (c .before .next-of .ensures)
+    (inv .2) (pre .0 .few) (omega arith) _ _ _ _ _ (c .before .before .before .wide .ensures) (c .before .next-of .ensures)
     (c .edge-number .ensures) in
     let more = numbered-more _ _ _ _ _ _ (omega arith) refl e (inv .2) in
     (search needs, more .len, more)

@@ -5,7 +5,7 @@ use native.Mathlib.Numerals.{add-one}
 use native.Mathlib.Omega.{arith}
 use Rattle.finite.specs.Below.{least, least-none, least-more, least-found}
 use Rattle.model.specs.Happens.{ROW-CASES}
-use Rattle.run_tests.specs.Cases.{nthCaseRows}
+use Rattle.run_rows.specs.Cases.{nthCaseRows}
 use Rattle.ask_derive.specs.Cases.{lowestRows}
 use borrow.Author.Needs.{needs}
 use Rattle.ask_derive.proofs.chains.case_of.Statement.{statement}

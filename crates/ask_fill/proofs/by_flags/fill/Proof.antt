@@ -1,4 +1,4 @@
-use Rattle.ask_check.specs.Engine.{few-of, bounded-of, ready-of}
+use Rattle.ask_check.specs.Engine.{located}
 use Rattle.ask_fill.specs.Parts.{fills}
 use borrow.Author.Needs.{needs}
 use Rattle.ask_fill.proofs.by_flags.fill.Statement.{statement}
@@ -10,7 +10,7 @@ settle-requires c κs =
     let c-8 = c-4 .before .before .before .before in
     let pre = c-8 .before .pre in
     let made = c-4 .locate .ensures in
-    (pre .2, pre .3, bounded-of (pre .0 .fit), ready-of (pre .0 .fit) (few-of (pre .0)) (pre .1) (made .1) (made .0))
+    (pre .1 .numbers, pre .2, located (pre .0) (pre .1 .work) made)
 
 returns : tie.Need-returns
 returns c =

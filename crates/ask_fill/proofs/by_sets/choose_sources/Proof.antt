@@ -11,7 +11,7 @@ use Rattle.ask_fill.proofs.by_sets.choose_sources.Tie as tie
 choose-requires : tie.Need-choose-requires
 choose-requires c κs =
     let c-4 = c .before .before .before .before in
-    let pre = c-4 .before .pre in (pre .1, pre .2, pre .3)
+    let pre = c-4 .before .pre in (pre .1, pre .2)
 
 returns : tie.Need-returns
 unfolding decode
@@ -29,7 +29,7 @@ returns-2 c =
     let c-16 = c-12 .before .before .before .before in
     let pre = c-16 .pre in
     let told = c-4 .before .before .before .is-filled .ensures in
-    let few = given-few (pre .2) in
+    let few = given-few (pre .2 .given) in
     let room = pre .0 in
     all-filled _ _ _ _ _ refl (c-8 .before .before .choose .ensures) (told .0) _ _ _ _ (not-false _ (c-4 .if1 .left)) (omega arith) (c .before .before .write-sources .ensures) (told .1)
 

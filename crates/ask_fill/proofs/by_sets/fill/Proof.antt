@@ -1,4 +1,4 @@
-use Rattle.ask_check.specs.Engine.{given-made}
+use Rattle.ask_check.specs.Engine.{to-judge}
 use Rattle.ask_fill.specs.Parts.{fills}
 use borrow.Author.Needs.{needs}
 use Rattle.ask_fill.proofs.by_sets.fill.Statement.{statement}
@@ -11,7 +11,7 @@ settle-requires c κs =
     let c-12 = c-8 .before .before .before .before in
     let pre = c-12 .pre in
     let made = c-4 .before .before .locate .ensures in
-    (pre .2, pre .3, given-made made (pre .1), made .judging)
+    (pre .1 .numbers, pre .2, to-judge made (pre .1 .work))
 
 returns : tie.Need-returns
 returns c =

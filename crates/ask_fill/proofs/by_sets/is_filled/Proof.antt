@@ -16,7 +16,7 @@ is-consistent-requires c κs =
     let c-4 = c .before .before .before .before in
     let pre = c-4 .before .before .pre in
     let fit = c .before .before .sources-fit .ensures in
-    (pre .0, sourced-fit _ _ (sym fit ∙ not-false _ (c .before .if1 .left)), pre .1, pre .2)
+    (record { each = pre .0; sourced = sourced-fit _ _ (sym fit ∙ not-false _ (c .before .if1 .left)) }, pre .1)
 
 returns-2 : tie.Need-returns-2
 returns-2 c =

@@ -7,7 +7,7 @@ use native.Mathlib.Omega.{arith}
 use Rattle.finite.specs.Logic.{_or_}
 use Rattle.finite.specs.Below.{anyBelow, any-none, any-more, any-in}
 use Rattle.model.specs.Happens.{ROW-CASES}
-use Rattle.run_tests.specs.Cases.{nthCaseRows}
+use Rattle.run_rows.specs.Cases.{nthCaseRows}
 use Rattle.flags_order.specs.Cases.{stepRows, step-off}
 use borrow.Author.Needs.{needs}
 use Rattle.flags_order.proofs.steps.is_step.Statement.{statement}

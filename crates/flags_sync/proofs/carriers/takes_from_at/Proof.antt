@@ -3,7 +3,7 @@ use native.Mathlib.Omega.{arith}
 use borrow.Author.Tests.{not-true, not-false}
 use Rattle.bits.specs.Stage.{holds-bit}
 use Rattle.finite.specs.Logic.{_and_}
-use Rattle.run_tests.specs.Forms.{takes-apart, takes-none, takes-on}
+use Rattle.run_rows.specs.Forms.{takes-apart, takes-none, takes-on}
 use borrow.Author.Needs.{needs}
 use Rattle.flags_sync.proofs.carriers.takes_from_at.Statement.{statement}
 use Rattle.flags_sync.proofs.carriers.takes_from_at.Tie as tie

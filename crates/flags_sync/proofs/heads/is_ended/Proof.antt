@@ -1,5 +1,5 @@
 use Rattle.run.specs.Layout.{tableIn}
-use Rattle.run_tests.specs.Forms.{ends-told}
+use Rattle.run_rows.specs.Forms.{ends-told}
 use mathlib.Core.Path.{_≡_, sym, _∙_}
 use mathlib.Core.Bool.{false}
 use Prim.Native.Nat.{_-_, _≤_}

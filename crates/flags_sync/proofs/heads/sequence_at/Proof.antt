@@ -1,7 +1,7 @@
 use mathlib.Core.Path.{sym, _∙_}
 use borrow.Author.Tests.{not-true, not-false}
 use Rattle.finite.specs.Logic.{_or_}
-use Rattle.run_tests.specs.Forms.{sequence-off, sequence-on}
+use Rattle.run_rows.specs.Forms.{sequence-off, sequence-on}
 use borrow.Author.Needs.{needs}
 use Rattle.flags_sync.proofs.heads.sequence_at.Statement.{statement}
 use Rattle.flags_sync.proofs.heads.sequence_at.Tie as tie

@@ -1,5 +1,5 @@
 use Rattle.finite.specs.Logic.{_and_, _or_}
-use Rattle.run_tests.specs.Forms.{sync-off, sync-on}
+use Rattle.run_rows.specs.Forms.{sync-off, sync-on}
 use borrow.Author.Needs.{needs}
 use Rattle.flags_sync.proofs.sync.sync_at.Statement.{statement}
 use Rattle.flags_sync.proofs.sync.sync_at.Tie as tie

@@ -1,5 +1,5 @@
 use Rattle.finite.specs.Logic.{_and_}
-use Rattle.run_tests.specs.Forms.{over-off, over-on}
+use Rattle.run_rows.specs.Forms.{over-off, over-on}
 use borrow.Author.Needs.{needs}
 use Rattle.flags_sync.proofs.sync.sync_barriers.Statement.{statement}
 use Rattle.flags_sync.proofs.sync.sync_barriers.Tie as tie

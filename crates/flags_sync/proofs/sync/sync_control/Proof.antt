@@ -1,5 +1,5 @@
 use Rattle.finite.specs.Logic.{_and_}
-use Rattle.run_tests.specs.Forms.{control-off, control-on}
+use Rattle.run_rows.specs.Forms.{control-off, control-on}
 use borrow.Author.Needs.{needs}
 use Rattle.flags_sync.proofs.sync.sync_control.Statement.{statement}
 use Rattle.flags_sync.proofs.sync.sync_control.Tie as tie

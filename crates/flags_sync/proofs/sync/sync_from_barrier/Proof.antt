@@ -1,5 +1,5 @@
 use Rattle.finite.specs.Logic.{_and_}
-use Rattle.run_tests.specs.Forms.{from-off, from-on}
+use Rattle.run_rows.specs.Forms.{from-off, from-on}
 use borrow.Author.Needs.{needs}
 use Rattle.flags_sync.proofs.sync.sync_from_barrier.Statement.{statement}
 use Rattle.flags_sync.proofs.sync.sync_from_barrier.Tie as tie

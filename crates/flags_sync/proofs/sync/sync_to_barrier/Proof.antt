@@ -1,5 +1,5 @@
 use Rattle.finite.specs.Logic.{_and_}
-use Rattle.run_tests.specs.Forms.{to-off, to-on}
+use Rattle.run_rows.specs.Forms.{to-off, to-on}
 use borrow.Author.Needs.{needs}
 use Rattle.flags_sync.proofs.sync.sync_to_barrier.Statement.{statement}
 use Rattle.flags_sync.proofs.sync.sync_to_barrier.Tie as tie

@@ -4,6 +4,7 @@ use Rattle.model.specs.Limits.{ROWS}
 use Rattle.run.specs.Layout.{tableIn}
 use Rattle.sets_of_rows.specs.First.{next}
 use Rattle.sets_of_rows.specs.Walk.{Walk, walk-less, walk-in}
+use Rattle.sets_grids.specs.Given.{fitting-few}
 use Rattle.sets_location.specs.Elements.{BitsTo, byteTo, bits-begin, bits-turn, bits-pass, bits-end, to-off, to-mask, to-none, has-is}
 use borrow.Author.Needs.{needs}
 use native.Mathlib.Omega.{arith}
@@ -28,19 +29,19 @@ but-first-requires c κs = sym (c .before .before .some .ensures) ∙ c .before 
 get-requires : tie.Need-get-requires Inv-loop μ-loop
 get-requires c κs =
     let c-4 = c .before .before .before .before in
-    let l = c-4 .before .before .before .pre .4 _ (walk-in (c-4 .loop .inv .0) (c .before .first .ensures)) in omega (arith, l, c-4 .before .before .before .pre .2, c-4 .before .before .before .pre .3)
+    let l = c-4 .before .before .before .pre .2 _ (walk-in (c-4 .loop .inv .0) (c .before .first .ensures)) in omega (arith, l, (fitting-few (c-4 .before .before .before .pre .1)), c-4 .before .before .before .pre .1 .room)
 
 has-requires : tie.Need-has-requires Inv-loop μ-loop
 has-requires c κs =
     let c-4 = c .before .before .before .before in
     let c-8 = c-4 .before .before .before .before in
-    omega (arith, c-8 .pre .1, c-8 .pre .2)
+    omega (arith, c-8 .pre .0 .second, (fitting-few (c-8 .pre .1)))
 
 shared-requires : tie.Need-shared-requires Inv-loop μ-loop
 shared-requires c κs =
     let c-4 = c .before .before .before .before in
     let c-8 = c-4 .before .before .before .before in
-    (c-8 .before .before .pre .0, c-8 .before .before .pre .4 _ (walk-in (c-4 .before .before .before .loop .inv .0) (c-4 .first .ensures)), c-8 .before .before .pre .5)
+    (c-8 .before .before .pre .0 .first, c-8 .before .before .pre .2 _ (walk-in (c-4 .before .before .before .loop .inv .0) (c-4 .first .ensures)), c-8 .before .before .pre .1 .fit)
 
 loop-less : tie.Need-loop-less Inv-loop μ-loop
 loop-less c =

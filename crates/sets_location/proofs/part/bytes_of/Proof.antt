@@ -22,7 +22,7 @@ first-requires : tie.Need-first-requires Inv-loop μ-loop
 first-requires c κs = sym (c .before .some .ensures) ∙ c .if1 .taken
 
 shared-requires : tie.Need-shared-requires Inv-loop μ-loop
-shared-requires c κs = (c .before .before .before .before .pre .0, c .before .before .before .before .pre .2 _ (walk-in (c .before .before .before .loop .inv .0) (c .first .ensures)), c .before .before .before .before .pre .3)
+shared-requires c κs = (c .before .before .before .before .pre .0, c .before .before .before .before .pre .1 _ (walk-in (c .before .before .before .loop .inv .0) (c .first .ensures)), c .before .before .before .before .pre .2)
 
 but-first-requires : tie.Need-but-first-requires Inv-loop μ-loop
 but-first-requires c κs = sym (c .before .before .before .some .ensures) ∙ c .before .before .if1 .taken

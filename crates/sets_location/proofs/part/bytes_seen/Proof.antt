@@ -22,33 +22,33 @@ abbrev μ-loop : tie.MeasureT-loop
 μ-loop t n s x y w wide plain m₀ left₀ m left = ROWS - next left
 
 of-agent-requires : tie.Need-of-agent-requires Inv-loop μ-loop
-of-agent-requires c κs = (c .before .before .pre .1, c .before .before .pre .4 .opened)
+of-agent-requires c κs = (c .before .before .pre .0 .pair .second .low, c .before .before .pre .1 .given .opened)
 
 above-requires : tie.Need-above-requires Inv-loop μ-loop
-above-requires c κs = let b = few (c .before .before .before .pre .4 .opened) in let low = c .before .before .before .pre .1 in omega (arith, low, b)
+above-requires c κs = let b = few (c .before .before .before .pre .1 .given .opened) in let low = c .before .before .before .pre .0 .pair .second .low in omega (arith, low, b)
 
 wide-visible-requires : tie.Need-wide-visible-requires Inv-loop μ-loop
 unfolding decode
 wide-visible-requires c κs =
     let c-4 = c .before .before .before .before in
-    let b = few (c-4 .before .pre .4 .opened) in let r = c-4 .before .pre .4 .opened .rows in let low = c-4 .before .pre .0 in (omega (arith, low, b), c-4 .before .pre .4 .opened .fit .classed _ (omega (arith, low, r)) (c-4 .before .pre .3 .first), c-4 .before .pre .4 .opened .space)
+    let b = few (c-4 .before .pre .1 .given .opened) in let r = c-4 .before .pre .1 .given .opened .rows in let low = c-4 .before .pre .0 .pair .first .low in (omega (arith, low, b), c-4 .before .pre .1 .given .opened .fit .classed _ (omega (arith, low, r)) (c-4 .before .pre .0 .pair .first .is), c-4 .before .pre .1 .given .opened .space)
 
 drop-requires : tie.Need-drop-requires Inv-loop μ-loop
 drop-requires c κs =
     let c-4 = c .before .before .before .before in
-    let b = few (c-4 .before .before .before .pre .4 .opened) in let low = c-4 .before .before .before .pre .1 in omega (arith, low, b)
+    let b = few (c-4 .before .before .before .pre .1 .given .opened) in let low = c-4 .before .before .before .pre .0 .pair .second .low in omega (arith, low, b)
 
 plain-visible-requires : tie.Need-plain-visible-requires Inv-loop μ-loop
 plain-visible-requires c κs =
     let c-4 = c .before .before .before .before in
     let c-8 = c-4 .before .before .before .before in
-    let b = few (c-8 .pre .4 .opened) in let low = c-8 .pre .0 in (omega (arith, low, b), c-8 .pre .4 .opened .space)
+    let b = few (c-8 .pre .1 .given .opened) in let low = c-8 .pre .0 .pair .first .low in (omega (arith, low, b), c-8 .pre .1 .given .opened .space)
 
 bytes-of-requires : tie.Need-bytes-of-requires Inv-loop μ-loop
 bytes-of-requires c κs =
     let c-4 = c .before .before .before .before in
     let c-8 = c-4 .before .before .before .before in
-    (c-8 .before .before .before .pre .0, few (c-8 .before .before .before .pre .4 .opened), wide-among (c-8 .before .before .before .pre .4 .opened) _ (c-8 .before .before .before .pre .0) (c-8 .before .before .before .pre .3 .first) (c-8 .before .before .before .pre .6) _ _ (c .and3 .ensures), c-8 .before .before .before .pre .4 .opened .fit)
+    (c-8 .before .before .before .pre .0 .pair .first .low, wide-among (c-8 .before .before .before .pre .1 .given .opened) _ (c-8 .before .before .before .pre .0 .pair .first .low) (c-8 .before .before .before .pre .0 .pair .first .is) (c-8 .before .before .before .pre .2) _ _ (c .and3 .ensures), c-8 .before .before .before .pre .1 .given .opened .fit)
 
 loop-holds : tie.Need-loop-holds Inv-loop μ-loop
 loop-holds c = more-begin _ _ _ (seen-off _ _ _ _ _ _) _ (mask-self (c .before .bytes-of .ensures))
@@ -65,7 +65,7 @@ shared-requires c κs =
     let c-8 = c-4 .before .before .before .before in
     let c-12 = c-8 .before .before .before .before in
     let c-16 = c-12 .before .before .before .before in
-    (c-16 .before .before .pre .0, member-in _ (c-16 .before .before .pre .6 .parts) (walk-in (c-4 .loop .inv .0) (c .before .first .ensures)) .0, c-16 .before .before .pre .4 .opened .fit)
+    (c-16 .before .before .pre .0 .pair .first .low, member-in _ (c-16 .before .before .pre .2 .parts) (walk-in (c-4 .loop .inv .0) (c .before .first .ensures)) .0, c-16 .before .before .pre .1 .given .opened .fit)
 
 get-requires : tie.Need-get-requires Inv-loop μ-loop
 get-requires c κs =
@@ -73,7 +73,7 @@ get-requires c κs =
     let c-8 = c-4 .before .before .before .before in
     let c-12 = c-8 .before .before .before .before in
     let c-16 = c-12 .before .before .before .before in
-    let r = c-16 .before .before .before .pre .4 .room in let l = c .before .before .first .ensures .bound in omega (arith, r, l)
+    let r = c-16 .before .before .before .pre .1 .given .room in let l = c .before .before .first .ensures .bound in omega (arith, r, l)
 
 loop-less : tie.Need-loop-less Inv-loop μ-loop
 loop-less c =
@@ -95,7 +95,7 @@ bytes-of-requires-2 c κs =
     let c-16 = c-12 .before .before .before .before in
     let c-20 = c-16 .before .before .before .before in
     let c-24 = c-20 .before .before .before .before in
-    (c-24 .pre .0, few (c-24 .pre .4 .opened), plain-among _ _ (upto-sets (c-24 .pre .4 .opened) _ _ (c-24 .pre .0) (c-24 .pre .3 .first) _ _ _ _ _ _ _ _ (c-20 .before .of-agent .ensures) (c-20 .above .ensures) (c-16 .before .before .before .less .ensures) (c-16 .before .before .wide-visible .ensures) (c-16 .before .and .ensures) (c-16 .drop .ensures) (c-12 .before .before .before .plain-visible .ensures) (c-12 .before .before .and2 .ensures)) (c .and5 .ensures), c-24 .pre .4 .opened .fit)
+    (c-24 .pre .0 .pair .first .low, plain-among _ _ (upto-sets (c-24 .pre .1 .given .opened) _ _ (c-24 .pre .0 .pair .first .low) (c-24 .pre .0 .pair .first .is) _ _ _ _ _ _ _ _ (c-20 .before .of-agent .ensures) (c-20 .above .ensures) (c-16 .before .before .before .less .ensures) (c-16 .before .before .wide-visible .ensures) (c-16 .before .and .ensures) (c-16 .drop .ensures) (c-12 .before .before .before .plain-visible .ensures) (c-12 .before .before .and2 .ensures)) (c .and5 .ensures), c-24 .pre .1 .given .opened .fit)
 
 loop-less-2 : tie.Need-loop-less-2 Inv-loop μ-loop
 loop-less-2 c =
@@ -116,7 +116,7 @@ returns c =
     let c-8 = c-4 .before .before .before .before in
     let c-12 = c-8 .before .before .before .before in
     let c-16 = c-12 .before .before .before .before in
-    seen-met (c-16 .pre .4 .opened) (c-16 .pre .5) _ _ (c-16 .pre .0) (c-16 .pre .1) (c-16 .pre .3) (c-16 .pre .6) (c-16 .pre .2) (upto-sets (c-16 .pre .4 .opened) _ _ (c-16 .pre .0) (c-16 .pre .3 .first) _ _ _ _ _ _ _ _ (c-12 .before .of-agent .ensures) (c-12 .above .ensures) (c-8 .before .before .before .less .ensures) (c-8 .before .before .wide-visible .ensures) (c-8 .before .and .ensures) (c-8 .drop .ensures) (c-4 .before .before .before .plain-visible .ensures) (c-4 .before .before .and2 .ensures)) _ (c-4 .before .and3 .ensures) (c-4 .bytes-of .ensures) (more-end _ _ _ (seen-off _ _ _ _ _ _) _ _ (sym (c .before .some .ensures) ∙ c .if1 .left) (c .before .before .loop .inv .1))
+    seen-met (c-16 .pre .1 .given .opened) (c-16 .pre .1 .locating) _ _ (c-16 .pre .0 .pair .first .low) (c-16 .pre .0 .pair .second .low) (c-16 .pre .0 .pair) (c-16 .pre .2) (c-16 .pre .0 .reading) (upto-sets (c-16 .pre .1 .given .opened) _ _ (c-16 .pre .0 .pair .first .low) (c-16 .pre .0 .pair .first .is) _ _ _ _ _ _ _ _ (c-12 .before .of-agent .ensures) (c-12 .above .ensures) (c-8 .before .before .before .less .ensures) (c-8 .before .before .wide-visible .ensures) (c-8 .before .and .ensures) (c-8 .drop .ensures) (c-4 .before .before .before .plain-visible .ensures) (c-4 .before .before .and2 .ensures)) _ (c-4 .before .and3 .ensures) (c-4 .bytes-of .ensures) (more-end _ _ _ (seen-off _ _ _ _ _ _) _ _ (sym (c .before .some .ensures) ∙ c .if1 .left) (c .before .before .loop .inv .1))
 
 pub bytes-seen-spec : {M : Type 1} → statement M
 bytes-seen-spec =

@@ -55,7 +55,7 @@ later-row-requires c κs =
     let small = few o in
     let m = member-in _ (rows-at (c-4 .before .before .rows .ensures) (says-rows (o .known .tested .kinds .ranked))) (walk-in (c-4 .before .loop .inv .1 .walk) (c .before .before .first .ensures)) in
     let f = within-trans (within-cleared LATER LATER-END (omega arith) (c-8 .before .clear .ensures)) (c-4 .before .loop .inv .1 .frame) in
-    (m .0, m .1, given-kept f (pre .0), grid-kept (λ h. absurd (omega arith)) f (pre .1))
+    (record { low = m .0; is = m .1 }, given-kept f (pre .0), grid-kept (λ h. absurd (omega arith)) f (pre .1))
 
 loop-less : tie.Need-loop-less Inv-loop μ-loop
 loop-less c =

@@ -4,13 +4,13 @@ use Rattle.sets_of_table.proofs.number.group.Statement.{statement}
 use Rattle.sets_of_table.proofs.number.group.Tie as tie
 
 place-requires : tie.Need-place-requires
-place-requires c κs = (search needs, search needs, small-numbered (c .before .before .before .before .number .ensures))
+place-requires c κs = (search needs, small-numbered (search needs) (c .before .before .before .before .number .ensures))
 
 spread-requires : tie.Need-spread-requires
 spread-requires c κs =
     let c-4 = c .before .before .before .before in
     let c-8 = c-4 .before .before .before .before in
-    (search needs, search needs, search needs, small-numbered (c-8 .before .number .ensures))
+    (search needs, search needs, small-numbered (search needs) (c-8 .before .number .ensures))
 
 returns : tie.Need-returns
 returns c =

@@ -33,7 +33,12 @@ number-row-requires c κs =
     let low = c-4 .first .ensures in
     let inv = c-4 .before .before .before .loop .inv in
     let pre = c-8 .before .before .pre in
-    (omega (arith, low .bound, inv .0, pre .0), omega (arith, low .bound, inv .1, pre .1), number-few (inv .2 .1) low, low .bound)
+    record {
+      row = low .bound;
+      few = number-few (inv .2 .1) low;
+      keys = omega (arith, low .bound, inv .0, pre .0);
+      numbers = omega (arith, low .bound, inv .1, pre .1);
+    }
 
 loop-less : tie.Need-loop-less Inv-loop μ-loop
 loop-less c =

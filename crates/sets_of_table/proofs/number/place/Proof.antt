@@ -35,7 +35,7 @@ put-bit-requires c κs =
     let inv = c-4 .before .before .loop .inv in
     let pre = c-12 .before .pre in
     let cleared = within-cleared _ _ (omega arith) (c-8 .before .clear .ensures) in
-    (omega (arith, pre .2 .each _ (walk-in (inv .2 .0) low), inv .0, pre .0, cleared .len), low .bound)
+    (omega (arith, pre .1 .each _ (walk-in (inv .2 .0) low), inv .0, pre .0, cleared .len), low .bound)
 
 loop-less : tie.Need-loop-less Inv-loop μ-loop
 loop-less c =
@@ -51,7 +51,7 @@ loop-again c =
     let low = c-4 .before .before .first .ensures in
     let inv = c-8 .before .loop .inv in
     let put = c .before .before .put-bit .ensures in
-    let small = c-16 .pre .2 .each _ (walk-in (inv .2 .0) low) in (
+    let small = c-16 .pre .1 .each _ (walk-in (inv .2 .0) low) in (
       put .frame .len ∙ inv .0,
       within-trans (inv .1) (within-widen _ _ (omega arith) (omega (arith, small)) (put .frame)),
       placed-turn _ (inv .2) low (c-4 .before .but-first .ensures) refl small put,

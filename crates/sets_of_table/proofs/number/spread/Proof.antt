@@ -32,7 +32,7 @@ get-requires c κs =
     let c-8 = c-4 .before .before .before .before in
     let c-12 = c-8 .before .before .before .before in
     let low = c .before .before .before .first .ensures in
-    let small = c-12 .before .before .pre .3 .each _ (walk-in (c-4 .before .before .loop .inv .1 .walk) low) in
+    let small = c-12 .before .before .pre .2 .each _ (walk-in (c-4 .before .before .loop .inv .1 .walk) low) in
     omega (arith, small, c-12 .before .before .pre .1)
 
 loop-less : tie.Need-loop-less Inv-loop μ-loop

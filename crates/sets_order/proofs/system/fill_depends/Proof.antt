@@ -1,4 +1,4 @@
-use mathlib.Core.Path.{_≡_, refl, _∙_}
+use mathlib.Core.Path.{_≡_, _∙_}
 use Rattle.bits.specs.Within.{Within, within-refl, within-trans, within-widen, within-cleared}
 use Rattle.run.specs.Layout.{modeIn}
 use Rattle.sets_grids.specs.Regions.{DEPENDS, DEPENDS-END}
@@ -23,9 +23,12 @@ clear-requires c κs = let a = c .before .before .pre .1 in omega arith
 loop-holds : tie.Need-loop-holds Inv-loop μ-loop
 loop-holds c =
     let c-4 = c .before .before .before .before in
-    let pre = c-4 .before .before .before .pre in
-    (search needs, c .dependencies .ensures,
-    depends-begin _ _ _ _ _ (empty-cleared DEPENDS DEPENDS DEPENDS-END _ (omega arith) (omega arith) (let a = pre .1 in omega arith) (c-4 .clear .ensures)) (c .before .none .ensures), within-refl _ _ _)
+    let pre = c-4 .before .before .before .pre in (
+      search needs,
+      c .dependencies .ensures,
+      depends-begin _ _ _ _ _ (empty-cleared DEPENDS DEPENDS DEPENDS-END _ (omega arith) (omega arith) (let a = pre .1 in omega arith) (c-4 .clear .ensures)) (c .before .none .ensures),
+      within-refl _ _ _,
+    )
 
 put-bit-requires : tie.Need-put-bit-requires Inv-loop μ-loop
 put-bit-requires c κs =
@@ -109,6 +112,6 @@ returns c =
     depends-end (c-8 .before .pre .0) (omega (arith, e, c .loop-test .left, inv .0)) (inv .2) (within-trans (within-cleared DEPENDS DEPENDS-END (omega arith) (c-4 .before .before .clear .ensures)) (inv .3))
 
 pub fill-depends-spec : {M : Type 1} → statement M
-fill-depends-spec = tie.close (tie.spec Inv-loop μ-loop clear-requires (λ c κs. search needs) (λ c κs. search needs) loop-holds
-    (λ c κs. search needs) (λ c. search needs) (λ c κs. search needs) (λ c. search needs) put-bit-requires bit-requires bit-requires-2 (λ c κs. search needs) (λ c κs. search needs)
-    (λ c. search needs) (λ c. search needs) loop-again same-length returns)
+fill-depends-spec = tie.close (tie.spec Inv-loop μ-loop clear-requires (λ c κs. search needs) (λ c κs. search needs) loop-holds (λ c κs. search needs)
+    (λ c. search needs) (λ c κs. search needs) (λ c. search needs) put-bit-requires bit-requires bit-requires-2 (λ c κs. search needs)
+    (λ c κs. search needs) (λ c. search needs) (λ c. search needs) loop-again same-length returns)

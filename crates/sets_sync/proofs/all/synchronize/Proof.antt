@@ -41,7 +41,7 @@ fill-sync-requires c κs =
     let c-16 = c-12 .before .before .before .before in
     let c-20 = c-16 .before .before .before .before in
     let small = given-few (c-20 .before .before .before .pre) in
-    (given-kept (c .before .before .before .fill-passed .ensures .frame) (given-kept (c-4 .before .before .before .fill-taken .ensures .frame) (given-kept (c-8 .before .before .before .fill-heads .ensures .frame) (given-kept (c-12 .before .before .before .fill-later .ensures .frame) (given-kept (c-16 .before .before .before .fill-mutual .ensures .frame) (c-20 .before .before .before .pre))))), grid-kept (λ o. absurd (omega arith)) (c .before .before .before .fill-passed .ensures .frame) (c-4 .before .before .before .fill-taken .ensures .grid), c .before .before .before .fill-passed .ensures .grid)
+    (given-kept (c .before .before .before .fill-passed .ensures .frame) (given-kept (c-4 .before .before .before .fill-taken .ensures .frame) (given-kept (c-8 .before .before .before .fill-heads .ensures .frame) (given-kept (c-12 .before .before .before .fill-later .ensures .frame) (given-kept (c-16 .before .before .before .fill-mutual .ensures .frame) (c-20 .before .before .before .pre))))), record { taken = grid-kept (λ o. absurd (omega arith)) (c .before .before .before .fill-passed .ensures .frame) (c-4 .before .before .before .fill-taken .ensures .grid); passed = c .before .before .before .fill-passed .ensures .grid })
 
 same-length : tie.Need-same-length
 same-length c =

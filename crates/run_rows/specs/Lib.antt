@@ -1,0 +1,4 @@
+pub mod Cases
+pub mod Early
+pub mod Forms
+pub mod Shared

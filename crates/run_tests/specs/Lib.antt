@@ -1,5 +1,0 @@
-pub mod Cases
-pub mod Early
-pub mod Forms
-pub mod Shared
-pub mod Several

@@ -91,6 +91,7 @@ pub const FIRST: u8 = 1;
 pub const COUNTED: u8 = 2;
 
 // Whether ranks are counted.
+// Ruled out: one that counts them in version 1; one that doesn't in version 3.
 pub fn is_counted(s: &[u8]) -> bool
     ensures { λ r. ⌜ r ≡ modeOf false (now (s .entry)) .counted ⌝ }
 {

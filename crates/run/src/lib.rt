@@ -124,6 +124,7 @@ pub fn atomic_source(t: &Run, i: u16) -> Source
 
 // ---- dependencies
 
+// Ruled out: one that gives how many a table may have; one that reads the header's count of rows.
 pub fn dependencies(t: &Run) -> u16
     ensures { λ r. ⌜ r ≡ modeIn (now (t .entry)) .dependencies ⌝ }
 {
@@ -145,6 +146,7 @@ fn end_of(t: &Run, at: u8, k: u16) -> u16
 }
 
 // The row that system-synchronizes-with another, and that other row, by dependency k.
+// Ruled out: one that exchanges the two; one that reads what the next dependency says.
 pub fn first_of(t: &Run, k: u16) -> u16
     ensures { λ r. ⌜ r ≡ getD (modeIn (now (t .entry)) .first) k 0 ⌝ }
 {

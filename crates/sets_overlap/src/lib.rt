@@ -68,6 +68,7 @@ fn overlap_row(t: &Run, n: usize, s: &[u64], near: &[u64], i: usize) -> Set
 }
 
 // OVERLAP.
+// Ruled out: one in which the later of two locations alone has the other's rows; one in which a location has only its first row's.
 pub fn fill_overlaps(t: &Run, n: usize, s: &[u64], w: &mut [u64])
     requires { ⌜ Given (tableIn (now t) n) n (now s) (now w) ⌝ }
     ensures { λ _. ⌜ MadeGrid OVERLAP OVERLAP-END OVERLAP n (overlaps (tableIn (now (t .entry)) n)) (now (w .entry)) (now (w .exit)) ⌝ }

@@ -482,7 +482,11 @@ fn share(table: &Table, first: u8, second: u8, scope: u8) -> bool {
         _ if scope > scope::DEVICE => false,
         _ => {
             let numbers = usize::from(scope::DEVICE - scope);
-            table.agents[x][..numbers] == table.agents[y][..numbers]
+            // Nor such an agent.
+            match (table.agents.get(x), table.agents.get(y)) {
+                (Some(x), Some(y)) => x[..numbers] == y[..numbers],
+                _ => false,
+            }
         }
     }
 }

@@ -5,7 +5,7 @@ use mathlib.Core.List.{List}
 use mathlib.Core.Logic.{⊎-elim}
 use Prim.Native.Nat.{ℕ, _+_, _-_, _*_, _≤_, _<_}
 use native.Mathlib.Omega.{arith}
-use lib.Dec.{ltb, eqb}
+use lib.Dec.{ltb}
 use lib.Bits.{bitAnd, bitXor, xor-lt, and-le-l}
 use borrow.Author.Tests.{ltb-true, lt-ltb, le-leb, eqb-true}
 use Rattle.finite.specs.Logic.{_and_, _or_, bool-ext, split, and-true, and-same, or-cases, or-left, or-right, not-so, not-both, not-in, not-out, which}
@@ -69,10 +69,6 @@ candidateIn t n y s = ltb s n and candidate t y s
 pub in-column : (w : List ℕ) (y z : ℕ) {x : Set} {b : Bool} → x ≡ setAt w (SOME + 2 * z) → b ≡ inSet x y → b ≡ inColumn w y z
 unfolding inColumn
 in-column w y z e f = f ∙ ap (λ (v : Set). inSet v y) e
-
-pub one-more : (b : Bool) (r o q z : Set) (i : ℕ) → ((j : ℕ) → inSet o j ≡ eqb j i) → ((j : ℕ) → inSet q j ≡ (b and inSet o j)) → ((j : ℕ) → inSet z j ≡ (inSet r j or inSet q j))
-    → (j : ℕ) → inSet z j ≡ (inSet r j or (b and eqb j i))
-one-more b r o q z i e f g j = g j ∙ ap (λ (v : Bool). inSet r j or v) (f j ∙ ap (λ (v : Bool). b and v) (e j))
 
 -- a row that is ordered before y shares bytes with it
 some-over : (t : Table) (z y : ℕ) → beforeSome t z y ≡ true → overlaps t y z ≡ true

@@ -90,11 +90,6 @@ pub control-rows : {t : Table} {n : ℕ} {s : List ℕ} → Opened t n s → {x 
 unfolding control
 control-rows o e = rows-at e (says-rows (says-kind (o .known .tested .ground) 6 (omega arith)))
 
--- one more row that passes
-pub one-more : (b : Bool) (r o q z : Set) (i : ℕ) → ((j : ℕ) → inSet o j ≡ eqb j i) → ((j : ℕ) → inSet q j ≡ (b and inSet o j)) → ((j : ℕ) → inSet z j ≡ (inSet r j or inSet q j))
-    → (j : ℕ) → inSet z j ≡ (inSet r j or (b and eqb j i))
-one-more b r o q z i e f g j = g j ∙ ap (λ (v : Bool). inSet r j or v) (f j ∙ ap (λ (v : Bool). b and v) (e j))
-
 pub start-is : (t : Table) (c d u v : ℕ) → u ≡ t .row d .start → v ≡ t .row c .start → eqb u v ≡ sameStart t c d
 unfolding sameStart
 start-is t c d u v e f = ap₂ (λ (x y : ℕ). eqb x y) e f

@@ -4,9 +4,9 @@ use mathlib.Core.Bool.{Bool, true}
 use mathlib.Core.List.{List}
 use Prim.Native.Nat.{ℕ, _+_, _*_, _≤_, _<_}
 use native.Mathlib.Omega.{arith}
-use lib.Dec.{ltb}
+use lib.Dec.{ltb, eqb}
 use borrow.Author.Tests.{ltb-true}
-use Rattle.finite.specs.Logic.{_and_, bool-ext, split, and-true}
+use Rattle.finite.specs.Logic.{_and_, _or_, bool-ext, split, and-true}
 use Rattle.model.specs.Limits.{ROWS}
 use Rattle.sets_of_rows.specs.declared.Set.{Set}
 use Rattle.sets_of_rows.specs.Member.{inSet}
@@ -20,6 +20,11 @@ pub member-in : {n : ℕ} {p : ℕ → Bool} {x : Set} (i : ℕ) → Rows n p x 
 member-in {n} i h e =
     let a = split (sym (h .is i) ∙ e) in
     (ltb-true i n (a .0), a .1)
+
+-- row i was taken in where b says so
+pub one-more : (b : Bool) (r o q z : Set) (i : ℕ) → ((j : ℕ) → inSet o j ≡ eqb j i) → ((j : ℕ) → inSet q j ≡ (b and inSet o j)) → ((j : ℕ) → inSet z j ≡ (inSet r j or inSet q j))
+    → (j : ℕ) → inSet z j ≡ (inSet r j or (b and eqb j i))
+one-more b r o q z i e f g j = g j ∙ ap (λ (v : Bool). inSet r j or v) (f j ∙ ap (λ (v : Bool). b and v) (e j))
 
 -- a set x, of which row k's set z is put where k is a member: where r leads from no other row, the grid was made to hold r
 pub filled-made : {base n : ℕ} {x : Set} {on : ℕ → Bool} {w u : List ℕ} (r : ℕ → ℕ → Bool) → n ≤ ROWS → Rows n on x

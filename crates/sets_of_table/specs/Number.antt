@@ -41,8 +41,8 @@ pub record Numbered (key : ℕ → ℕ) (x : Set) (m : ℕ) (keys loc : List ℕ
 pub record Free (i l : ℕ) (keys loc : List ℕ) : Type 0 where
   pub row : i < ROWS
   pub few : l ≤ i
-  pub keys : i < length keys
-  pub numbers : i < length loc
+  pub key : i < length keys
+  pub number : i < length loc
 
 -- one more number where the last was used
 unfoldable pub grown : ℕ → ℕ → ℕ → Type 0

@@ -137,12 +137,15 @@ placed-end {base} {loc} {x} {s} {u} left e h w = record { is = λ k j o. all .is
 
 -- ---- laws: groups
 
-pub small-numbered : {key : ℕ → ℕ} {x : Set} {l : ℕ} {keys loc : List ℕ} → ROWS ≤ length loc → Numbered key x ROWS keys loc l → Small loc x
-small-numbered {key} {x} {l} {keys} {loc} long n = record { long = long; each = λ r e. go r e (decLt r ROWS) }
+low-numbered : {key : ℕ → ℕ} {x : Set} {l : ℕ} {keys loc : List ℕ} → Numbered key x ROWS keys loc l → (r : ℕ) → inSet x r ≡ true → getD loc r 0 < ROWS
+low-numbered {key} {x} {l} {keys} {loc} n r e = go (decLt r ROWS)
   where
-    go : (r : ℕ) → inSet x r ≡ true → Dec (r < ROWS) → getD loc r 0 < ROWS
-    go r e (yes o) = let a = n .low r o e in let b = n .few in omega arith
-    go r e (no o) = not-both e (in-none x r (omega arith))
+    go : Dec (r < ROWS) → getD loc r 0 < ROWS
+    go (yes o) = let a = n .low r o e in let b = n .few in omega arith
+    go (no o) = not-both e (in-none x r (omega arith))
+
+pub small-numbered : {key : ℕ → ℕ} {x : Set} {l : ℕ} {keys loc : List ℕ} → ROWS ≤ length loc → Numbered key x ROWS keys loc l → Small loc x
+small-numbered long n = record { long = long; each = low-numbered n }
 
 pub of-number-is : (by loc : List ℕ) (i k : ℕ) (z : Set) → k ≡ getD loc i 0 → z ≡ nth by 0 k → (j : ℕ) → inSet z j ≡ ofNumber by loc i j
 unfolding ofNumber
@@ -173,5 +176,5 @@ grouped {base} {key} {x} {l} {keys} {loc} {empty} {by} {s} {u} n p f =
     go : (i j : ℕ) → i < ROWS → (inSet x i ≡ true) ⊎ (inSet x i ≡ false)
         → (inSet x i and inSet (nth by 0 (getD loc i 0)) j) ≡ (inSet x i and (inSet x j and eqb (key i) (key j)))
     go i j o (inl a) =
-        ap (λ (z : Bool). inSet x i and z) (p .is (getD loc i 0) j (small-numbered n .each i a) ∙ member i j a o (which (inSet x j)))
+        ap (λ (z : Bool). inSet x i and z) (p .is (getD loc i 0) j (low-numbered n i a) ∙ member i j a o (which (inSet x j)))
     go i j o (inr a) = and-false-left (inSet x i) _ a ∙ sym (and-false-left (inSet x i) _ a)

@@ -6,7 +6,8 @@ use Rattle.sets_of_rows.specs.First.{next}
 use Rattle.sets_of_rows.specs.Walk.{Walk, walk-less}
 use Rattle.sets_of_rows.specs.Sift.{Sifted, sift-begin, sift-turn, sift-end}
 use Rattle.sets_of_table.specs.Ask.{few}
-use Rattle.sets_choice.specs.Choosing.{inColumn, in-column, one-more, writers-rows}
+use Rattle.sets_choice.specs.Choosing.{inColumn, in-column, writers-rows}
+use Rattle.sets_grids.specs.Filling.{one-more}
 use borrow.Author.Needs.{needs}
 use Rattle.sets_choice.proofs.writers_before.Statement.{statement}
 use Rattle.sets_choice.proofs.writers_before.Tie as tie

@@ -7,7 +7,8 @@ use Rattle.sets_of_rows.specs.First.{next}
 use Rattle.sets_of_rows.specs.Walk.{Walk, walk-less}
 use Rattle.sets_of_rows.specs.Sift.{Sifted, sift-begin, sift-turn, sift-end}
 use Rattle.sets_of_table.specs.Ask.{few}
-use Rattle.sets_control.specs.Passed.{sameStart, start-is, one-more, instance-rows}
+use Rattle.sets_control.specs.Passed.{sameStart, start-is, instance-rows}
+use Rattle.sets_grids.specs.Filling.{one-more}
 use borrow.Author.Needs.{needs}
 use native.Mathlib.Omega.{arith}
 use Rattle.sets_control.proofs.instance.Statement.{statement}

@@ -36,8 +36,8 @@ number-row-requires c κs =
     record {
       row = low .bound;
       few = number-few (inv .2 .1) low;
-      keys = omega (arith, low .bound, inv .0, pre .0);
-      numbers = omega (arith, low .bound, inv .1, pre .1);
+      key = omega (arith, low .bound, inv .0, pre .0);
+      number = omega (arith, low .bound, inv .1, pre .1);
     }
 
 loop-less : tie.Need-loop-less Inv-loop μ-loop

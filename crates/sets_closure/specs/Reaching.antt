@@ -1,16 +1,17 @@
 -- Inter-thread order from the nodes of a class set: three sets for each, of rows, visibility operations and availability operations. By one
--- pass up the page where every direct case leads down it, by Warshall's algorithm wherever they lead. Assumes nothing.
+-- pass up the page where every direct case leads down it, by a search from each node wherever they lead. Assumes nothing.
 use mathlib.Core.Path.{_≡_, refl, sym, ap, ap₂, subst, _∙_}
 use mathlib.Core.Bool.{Bool, true, false, not, cond}
 use mathlib.Core.List.{List}
 use mathlib.Core.Logic.{_⊎_, inl, inr, ⊎-elim}
-use Prim.Native.Nat.{ℕ, zero, suc, _+_, _-_, _*_, _≤_, _<_, min}
+use Prim.Native.Nat.{ℕ, zero, suc, _+_, _-_, _*_, _≤_, _<_}
 use native.Mathlib.Omega.{arith}
 use native.Mathlib.Decide.{decLt, ℕ-discrete}
-use lib.Dec.{ltb}
-use borrow.Author.Tests.{ltb-true, lt-ltb, leb-true, le-leb}
-use Rattle.finite.specs.Logic.{_and_, _or_, which, bool-ext, split, and-true, and-on, and-false-left, or-cases, or-left, or-right, or-off, not-both, not-in, not-out}
+use lib.Dec.{eqb, ltb}
+use borrow.Author.Tests.{eqb-true, eq-eqb, ne-eqb, ltb-true, lt-ltb, leb-true, le-leb}
+use Rattle.finite.specs.Logic.{_and_, _or_, which, bool-ext, split, and-true, and-false-right, or-cases, or-left, or-right, or-false, not-both, not-so, not-in, not-out}
 use Rattle.finite.specs.Below.{anyBelow, any-off, least-is, least-low}
+use Rattle.finite.specs.Count.{one, countBelow}
 use Rattle.model.specs.Limits.{ROWS}
 use Rattle.model.specs.Row.{plain, releases}
 use Rattle.model.specs.Moment.{itself}
@@ -21,9 +22,7 @@ use Rattle.model.specs.Table.{Table}
 use Rattle.bits.specs.Within.{Within, within-refl, within-trans, within-widen}
 use Rattle.work_area.specs.Regions.{SYNC}
 use Rattle.model_closing.specs.Order.{laterRow, fromRow}
-use Rattle.model_closing.specs.Warshall.{closedTo, closed-nodes}
-use Rattle.model_closing.specs.Phase.{Phase, phase-none, phase-turn, phase-pass, phase-next, phase-skip, phase-all}
-use Rattle.model_closing.specs.Nodes.{nodeHop, holder, releaser, acquirer, node, Way, last, next, node-way, way-inter, inter-one, inter-trans}
+use Rattle.model_closing.specs.Nodes.{holder, releaser, acquirer, node, Way, last, next, node-way, way-inter, inter-one, inter-trans}
 use Rattle.model_closing.specs.Direct.{takesPart, availableFor, visibleFor, meetsFor, directAvailable, directVisible, holder-is, meets-is, step-at, direct-available, direct-visible}
 use Rattle.model_closing.specs.Up.{Down}
 use Rattle.model_closing.specs.Sets.{reachedAt, reachedAvailable, reachedVisible}
@@ -85,10 +84,6 @@ pub record PutDirect (t : Table) (n : ℕ) (k : Concerned) (h : ℕ) (w u : List
 
 pub record Took (h j : ℕ) (w u : List ℕ) : Type 0 where
   pub is : (k x : ℕ) → k < 3 → inSet (nth u (grid k) h) x ≡ (inSet (nth w (grid k) h) x or inSet (nth w (grid k) j) x)
-  pub kept : Kept h w u
-
-pub record TakesIf (h j : ℕ) (w u : List ℕ) : Type 0 where
-  pub is : (k x : ℕ) → k < 3 → inSet (nth u (grid k) h) x ≡ (inSet (nth w (grid k) h) x or (inSet (nth w (grid 0) h) j and inSet (nth w (grid k) j) x))
   pub kept : Kept h w u
 
 -- node h has what it leads to at once, and each node that it leads to has what it reaches
@@ -550,37 +545,74 @@ up-end {t} {n} {k} {w} {u} h e p = record { to = λ c ends a down. subst (λ (z 
 
 -- ---- wherever direct cases lead: definitions
 
--- a direct case from the node x
-unfoldable pub hopOf : Table → (ℕ → Bool) → ℕ → ℕ → ℕ → ℕ → Bool
-hopOf t ends c g x j = nodeHop t ends c x (sortAt t g j)
+-- x is in row h's set of sort k
+abbrev pub held : List ℕ → ℕ → ℕ → ℕ → Bool
+held w k h x = inSet (nth w (grid k) h) x
 
--- the nodes of a class set
-pub record Ring (t : Table) (n c : ℕ) (ends nodes : Set) : Type 0 where
+-- row h has what row y leads to at once
+pub record Owns (t : Table) (n c y h : ℕ) (w : List ℕ) : Type 0 where
+  pub is : (k x : ℕ) → k < 3 → x < n → ownOf t c k y x ≡ true → held w k h x ≡ true
+
+-- row h has what it leads to at once, and nothing that it doesn't reach
+pub record Part (t : Table) (n c h : ℕ) (w : List ℕ) : Type 0 where
+  pub own : Owns t n c h h w
+  pub sound : (k x : ℕ) → k < 3 → held w k h x ≡ true → (x < n) × (reachOf t c k h x ≡ true)
+
+-- the nodes of a class set: each has a part, those that don't wait all that they reach
+pub record Partly (t : Table) (n c : ℕ) (ends nodes waiting : Set) (w : List ℕ) : Type 0 where
   pub rows : t .rows ≡ n
   pub few : n ≤ ROWS
   pub told : (a b : ℕ) → t .depends a b ≡ true → (inSet ends a ≡ true) × (inSet ends b ≡ true)
   pub members : Rows n (node t (inSet ends) c) nodes
-
--- each of them has its three sets
-pub record Each (t : Table) (n c : ℕ) (ends : Set) (f : ℕ → ℕ → ℕ → Bool) (w : List ℕ) : Type 0 where
-  pub is : (j : ℕ) → j < n → node t (inSet ends) c j ≡ true → Has n j (λ i x. f i j x) w
-
--- how far they are: the rows below i have had their turn in the phase of row k
-pub record Phased (t : Table) (n c : ℕ) (ends : Set) (w : List ℕ) (k i : ℕ) : Type 0 where
-  pub is : (g : ℕ) → g < 3 → Phase n (node t (inSet ends) c) (hopOf t (inSet ends) c 0) (hopOf t (inSet ends) c g) (λ x y. inSet (nth w (grid g) x) y) k i
-  pub low : (g x y : ℕ) → g < 3 → x < n → node t (inSet ends) c x ≡ true → inSet (nth w (grid g) x) y ≡ true → y < n
+  pub part : (j : ℕ) → inSet nodes j ≡ true → Part t n c j w
+  pub done : (j : ℕ) → inSet nodes j ≡ true → inSet waiting j ≡ false → Has n j (λ i x. reachOf t c i j x) w
 
 pub record PutsAll (t : Table) (n : ℕ) (k : Concerned) (w u : List ℕ) : Type 0 where
-  pub own : (c : ℕ) (ends : Set) → Asking t n c ends k w → Each t n c ends (ownOf t c) u
+  pub own : (c : ℕ) (ends : Set) → Asking t n c ends k w → Partly t n c ends (k .nodes) (k .nodes) u
   pub frame : Within REACH-AT REACH-END w u
 
-pub record ClosesAt (j : ℕ) (nodes : Set) (w u : List ℕ) : Type 0 where
-  pub to : (t : Table) (n c : ℕ) (ends : Set) → Ring t n c ends nodes → inSet nodes j ≡ true → Phased t n c ends w j 0 → Phased t n c ends u (j + 1) 0
-  pub frame : Within REACH-AT REACH-END w u
+pub record Searches (h : ℕ) (nodes waiting : Set) (w u : List ℕ) : Type 0 where
+  pub all : (t : Table) (n c : ℕ) (ends : Set) → Partly t n c ends nodes waiting w → inSet nodes h ≡ true → inSet waiting h ≡ true → Has n h (λ i x. reachOf t c i h x) u
+  pub kept : Kept h w u
 
 pub record Closes (nodes : Set) (w u : List ℕ) : Type 0 where
-  pub to : (t : Table) (n c : ℕ) (ends : Set) → Ring t n c ends nodes → Each t n c ends (ownOf t c) w → Each t n c ends (reachOf t c) u
+  pub to : (t : Table) (n c : ℕ) (ends : Set) → Partly t n c ends nodes nodes w → (j : ℕ) → j < n → node t (inSet ends) c j ≡ true → Has n j (λ i x. reachOf t c i j x) u
   pub frame : Within REACH-AT REACH-END w u
+
+-- the invariants: of the nodes that row h reaches those that are left aren't seen, and it has what those that are seen lead to at once
+pub record Seeing (h : ℕ) (nodes waiting : Set) (w : List ℕ) (left seen : Set) (u : List ℕ) : Type 0 where
+  pub ahead : (y : ℕ) → inSet left y ≡ (held u 0 h y and inSet nodes y and not (inSet seen y))
+  pub all : (t : Table) (n c : ℕ) (ends : Set) → Partly t n c ends nodes waiting w → inSet nodes h ≡ true → inSet waiting h ≡ true
+      → Part t n c h u × ((y : ℕ) → inSet seen y ≡ true → inSet nodes y ≡ true → Owns t n c y h u)
+  pub kept : Kept h w u
+
+pub record Closing (nodes : Set) (w : List ℕ) (left : Set) (u : List ℕ) : Type 0 where
+  pub sub : (j : ℕ) → inSet left j ≡ true → inSet nodes j ≡ true
+  pub to : (t : Table) (n c : ℕ) (ends : Set) → Partly t n c ends nodes nodes w → Partly t n c ends nodes left u
+  pub frame : Within REACH-AT REACH-END w u
+
+-- ---- laws: a part
+
+part-own : {t : Table} {n c j : ℕ} {w : List ℕ} → Has n j (λ i x. ownOf t c i j x) w → Part t n c j w
+part-own {t} {n} {c} {j} h =
+    record {
+      own = record { is = λ k x m l e. h .is k x m ∙ and-true (lt-ltb x n l) e };
+      sound = λ k x m e. let a = split (sym (h .is k x m) ∙ e) in (ltb-true x n (a .0), reach-own t c k j x (a .1));
+    }
+
+part-all : {t : Table} {n c j : ℕ} {w : List ℕ} → Has n j (λ i x. reachOf t c i j x) w → Part t n c j w
+part-all {t} {n} {c} {j} h =
+    record {
+      own = record { is = λ k x m l e. h .is k x m ∙ and-true (lt-ltb x n l) (reach-own t c k j x e) };
+      sound = λ k x m e. let a = split (sym (h .is k x m) ∙ e) in (ltb-true x n (a .0), a .1);
+    }
+
+part-kept : {t : Table} {n c h x : ℕ} {w u : List ℕ} → x < ROWS → (x ≡ h → ⊥) → Kept h w u → Part t n c x w → Part t n c x u
+part-kept {x = x} l d k p =
+    record {
+      own = record { is = λ i j m b e. ap (λ (z : Set). inSet z j) (k .keep i x m l d) ∙ p .own .is i j m b e };
+      sound = λ i j m e. p .sound i j m (sym (ap (λ (z : Set). inSet z j) (k .keep i x m l d)) ∙ e);
+    }
 
 -- ---- laws: direct cases from every node
 
@@ -612,197 +644,201 @@ put-turn {t} {n} {k} {w} {u} {v} {left} {rest} {h} f inv low r put =
 pub put-end : {t : Table} {n : ℕ} {k : Concerned} {w u : List ℕ} (left : Set) → anyBelow ROWS (inSet left) ≡ false → Putting t n k w (First.next left) u → Within REACH-AT REACH-END w u
     → PutsAll t n k w u
 put-end {t} {n} {k} {w} {u} left e p f =
-    record { own = λ c ends q. record { is = λ j b o. let l = q .few in all .own c ends q j (omega (arith, l)) b o }; frame = f }
+    record {
+      own = λ c ends q.
+          record {
+            rows = q .rows;
+            few = q .few;
+            told = q .told .told;
+            members = q .concerns .nodes;
+            part = λ j o. let a = member-in j (q .concerns .nodes) o in let l = q .few in part-own (all .own c ends q j (omega (arith, a .0, l)) (a .0) (a .1));
+            done = λ j o d. not-both o d;
+          };
+      frame = f;
+    }
   where
     all : Putting t n k w ROWS u
     all = walk-end (k .nodes) (λ m. Putting t n k w m u) (put-skip t n k w u) left e p
 
--- ---- laws: a round
+-- ---- laws: a search from row h
 
-pub takes-on : {h j : ℕ} {w u : List ℕ} (g : Set) (b : Bool) → g ≡ setAt w (REACH-AT + 2 * h) → b ≡ inSet g j → b ≡ true → Took h j w u → TakesIf h j w u
-takes-on {h} {j} {w} {u} g b eg eb e t =
+module _ {t : Table} {n c : ℕ} {ends nodes waiting : Set} {w : List ℕ} (p : Partly t n c ends nodes waiting w) where
+  inside : (j : ℕ) → inSet nodes j ≡ true → j < t .rows
+  inside j e = let a = member-in j (p .members) e .0 in let b = p .rows in omega arith
+
+  small : (j : ℕ) → inSet nodes j ≡ true → j < ROWS
+  small j e = let a = member-in j (p .members) e .0 in let b = p .few in omega arith
+
+module _ {t : Table} {n c : ℕ} {ends nodes waiting : Set} {w : List ℕ} (p : Partly t n c ends nodes waiting w) (h : ℕ) (on : inSet nodes h ≡ true) (waits : inSet waiting h ≡ true) where
+  part-now : {u : List ℕ} → Kept h w u → Part t n c h u → (j : ℕ) → inSet nodes j ≡ true → Part t n c j u
+  part-now {u} k q j e = go (ℕ-discrete j h)
+    where
+      go : Dec (j ≡ h) → Part t n c j u
+      go (yes d) = subst (λ (z : ℕ). Part t n c z u) (sym d) q
+      go (no d) = part-kept (small p j e) d k (p .part j e)
+
+  -- row h takes in row j, which it reaches
+  turned : {u v : List ℕ} {j : ℕ} (seen rest b : Set) → Kept h w u → Part t n c h u → ((y : ℕ) → inSet seen y ≡ true → inSet nodes y ≡ true → Owns t n c y h u)
+      → inSet nodes j ≡ true → held u 0 h j ≡ true → Took h j u v → ((y : ℕ) → inSet b y ≡ (eqb y j or (not (inSet waiting j) and held v 0 j y)))
+      → ((y : ℕ) → inSet rest y ≡ (inSet seen y or inSet b y)) → Part t n c h v × ((y : ℕ) → inSet rest y ≡ true → inSet nodes y ≡ true → Owns t n c y h v)
+  turned {u} {v} {j} seen rest b k q old at there took eb er = (
     record {
-      is = λ k x m. t .is k x m ∙ ap (λ (d : Bool). inSet (nth w (grid k) h) x or d) (sym (and-on _ _ (sym (ap (λ (s : Set). inSet s j) eg) ∙ sym eb ∙ e)));
-      kept = t .kept;
+      own = record { is = λ i x m l e. grow i x m (q .own .is i x m l e) };
+      sound = λ i x m e. ⊎-elim (λ o. q .sound i x m o) (λ o. brought i x m o) (or-cases _ _ (sym (took .is i x m) ∙ e));
+    },
+    λ y e o. cover y o (or-cases _ _ (sym (er y) ∙ e)),
+  )
+    where
+      here : Part t n c j u
+      here = part-now k q j at
+
+      grow : (i x : ℕ) → i < 3 → held u i h x ≡ true → held v i h x ≡ true
+      grow i x m e = took .is i x m ∙ or-left _ e
+
+      take : (i x : ℕ) → i < 3 → held u i j x ≡ true → held v i h x ≡ true
+      take i x m e = took .is i x m ∙ or-right _ e
+
+      brought : (i x : ℕ) → i < 3 → held u i j x ≡ true → (x < n) × (reachOf t c i h x ≡ true)
+      brought i x m e = let a = here .sound i x m e in (a .0, reach-more t c i h j x (inside p j at) (q .sound 0 j (omega arith) there .1) (a .1))
+
+      cover : (y : ℕ) → inSet nodes y ≡ true → (inSet seen y ≡ true) ⊎ (inSet b y ≡ true) → Owns t n c y h v
+      cover y o (inl e) = record { is = λ i x m l f. grow i x m (old y e o .is i x m l f) }
+      cover y o (inr e) = more (or-cases _ _ (sym (eb y) ∙ e))
+        where
+          more : (eqb y j ≡ true) ⊎ ((not (inSet waiting j) and held v 0 j y) ≡ true) → Owns t n c y h v
+          more (inl f) = record { is = λ i x m l g. take i x m (here .own .is i x m l (ap (λ (z : ℕ). ownOf t c i z x) (sym (eqb-true y j f)) ∙ g)) }
+          more (inr f) =
+              let off = not-out (inSet waiting j) (split f .0) in
+              let d : (j ≡ h → ⊥) = λ g. not-both waits (ap (inSet waiting) (sym g) ∙ off) in
+              let all = has-kept (small p j at) d k (p .done j at off) in
+              let r = split (sym (has-kept (small p j at) d (took .kept) all .is 0 y (omega arith)) ∙ split f .1) in
+              record { is = λ i x m l g. take i x m (all .is i x m ∙ and-true (lt-ltb x n l) (reach-more t c i j y x (inside p y o) (r .1) (reach-own t c i y x g))) }
+
+  -- no node is left
+  ended : {u : List ℕ} (left seen : Set) → Part t n c h u → ((y : ℕ) → inSet seen y ≡ true → inSet nodes y ≡ true → Owns t n c y h u)
+      → ((y : ℕ) → inSet left y ≡ (held u 0 h y and inSet nodes y and not (inSet seen y))) → anyBelow ROWS (inSet left) ≡ false → Has n h (λ i x. reachOf t c i h x) u
+  unfolding ownOf reachOf sortAt
+  ended {u} left seen q old el e =
+      record { is = λ k x m. bool-ext _ _ (λ i. let a = q .sound k x m i in and-true (lt-ltb x n (a .0)) (a .1)) (λ i. let a = split i in back k x m (ltb-true x n (a .0)) (a .1)) }
+    where
+      back : (k x : ℕ) → k < 3 → x < n → reachOf t c k h x ≡ true → held u k h x ≡ true
+      back k x m l f = go h (q .own) (node-way t c (inSet ends) (p .told) h (sortAt t k x) (inside p h on) (member-in h (p .members) on .1) f)
+        where
+          go : (y : ℕ) → Owns t n c y h u → Way t (inSet ends) c (sortAt t k x) y → held u k h x ≡ true
+          go y o (last g) = o .is k x m l g
+          go y o (next {y = z} g b s r) = go z (old z (seen-is (which (inSet seen z))) at) r
+            where
+              low : z < n
+              low = let a = p .rows in omega arith
+
+              at : inSet nodes z ≡ true
+              at = rows-in (p .members) z low ∙ s
+
+              seen-is : (inSet seen z ≡ true) ⊎ (inSet seen z ≡ false) → inSet seen z ≡ true
+              seen-is (inl i) = i
+              seen-is (inr i) = not-both (el z ∙ and-true (and-true (o .is 0 z (omega arith) low g) at) (not-in i)) (any-off (inSet left) ROWS e z (small p z at))
+
+pub see-begin : (h : ℕ) (nodes waiting : Set) (w : List ℕ) (left seen : Set) → ((y : ℕ) → inSet seen y ≡ false) → ((y : ℕ) → inSet left y ≡ (held w 0 h y and inSet nodes y and not (inSet seen y)))
+    → Seeing h nodes waiting w left seen w
+see-begin h nodes waiting w left seen e el = record { ahead = el; all = λ t n c ends p o b. (p .part h o, λ y f g. not-both f (e y)); kept = kept-none h w }
+
+pub see-turn : {h : ℕ} {nodes waiting : Set} {w u v : List ℕ} {left seen : Set} {j : ℕ} (b rest more : Set) → Seeing h nodes waiting w left seen u → First left j → Took h j u v
+    → ((y : ℕ) → inSet b y ≡ (eqb y j or (not (inSet waiting j) and held v 0 j y))) → ((y : ℕ) → inSet rest y ≡ (inSet seen y or inSet b y))
+    → ((y : ℕ) → inSet more y ≡ (held v 0 h y and inSet nodes y and not (inSet rest y))) → Seeing h nodes waiting w more rest v
+see-turn {left = left} {seen} {j} b rest more inv low took eb er en =
+    record {
+      ahead = en;
+      all = λ t n c ends p o i. let q = inv .all t n c ends p o i in let a = split (split (sym (inv .ahead j) ∙ low .hit) .0) in turned p _ o i seen rest b (inv .kept) (q .0) (q .1) (a .1) (a .0) took eb er;
+      kept = kept-more (inv .kept) (took .kept);
     }
 
-pub takes-off : {h j : ℕ} {w : List ℕ} (g : Set) (b : Bool) → g ≡ setAt w (REACH-AT + 2 * h) → b ≡ inSet g j → b ≡ false → TakesIf h j w w
-takes-off {h} {j} {w} g b eg eb e =
-    record { is = λ k x m. sym (or-off _ _ (and-false-left _ _ (sym (ap (λ (s : Set). inSet s j) eg) ∙ sym eb ∙ e))); kept = kept-none h w }
+pub see-end : {h : ℕ} {nodes waiting : Set} {w u : List ℕ} (left seen : Set) → anyBelow ROWS (inSet left) ≡ false → Seeing h nodes waiting w left seen u → Searches h nodes waiting w u
+see-end left seen e inv =
+    record { all = λ t n c ends p o i. let q = inv .all t n c ends p o i in ended p _ o i left seen (q .0) (q .1) (inv .ahead) e; kept = inv .kept }
 
-module _ {t : Table} {n c : ℕ} {ends nodes : Set} (ring : Ring t n c ends nodes) where
-  member-on : (j : ℕ) → inSet nodes j ≡ true → (j < n) × (node t (inSet ends) c j ≡ true)
-  member-on j e = member-in j (ring .members) e
+-- ---- laws: the measures fall
 
-  member-off : (j : ℕ) → j < n → inSet nodes j ≡ false → node t (inSet ends) c j ≡ false
-  member-off j l e = sym (rows-in (ring .members) j l) ∙ e
+one-under : (a b : Bool) → (a ≡ true → b ≡ true) → one a ≤ one b
+unfolding one
+one-under true b h = rw (h refl) (omega arith)
+one-under false b h = omega arith
 
-  phased-pass : (w : List ℕ) (j i : ℕ) → inSet nodes j ≡ true → inSet nodes i ≡ false → Phased t n c ends w j (min i n) → Phased t n c ends w j (min (i + 1) n)
-  phased-pass w j i e f p = go (decLt i n)
-    where
-      go : Dec (i < n) → Phased t n c ends w j (min (i + 1) n)
-      go (yes l) =
-          let a : min i n ≡ i = omega arith in
-          let b : i + 1 ≡ min (i + 1) n = omega arith in
-          let m = member-on j e in
-          subst (λ (z : ℕ). Phased t n c ends w j z) b
-          (record {
-            is = λ g h.
-                phase-pass n (node t (inSet ends) c) (hopOf t (inSet ends) c 0) (hopOf t (inSet ends) c g) _ _ j i
-                (subst (λ (z : ℕ). Phase n (node t (inSet ends) c) (hopOf t (inSet ends) c 0) (hopOf t (inSet ends) c 0) (λ x y. inSet (nth w (grid 0) x) y) j z) a (p .is 0 (omega arith)))
-                (subst (λ (z : ℕ). Phase n (node t (inSet ends) c) (hopOf t (inSet ends) c 0) (hopOf t (inSet ends) c g) (λ x y. inSet (nth w (grid g) x) y) j z) a (p .is g h)) l (m .0) (m .1)
-                (λ o. not-both o (member-off i l f));
-            low = p .low;
-          })
-      go (no l) = subst (λ (z : ℕ). Phased t n c ends w j z) (let a : min i n ≡ min (i + 1) n = omega arith in a) p
+count-under : (p q : ℕ → Bool) (n : ℕ) → ((k : ℕ) → q k ≡ true → p k ≡ true) → countBelow n q ≤ countBelow n p
+unfolding countBelow
+count-under p q zero h = omega arith
+count-under p q (suc n) h = omega (arith, count-under p q n h, one-under (q n) (p n) (h n))
 
-  phased-turn : {w u : List ℕ} (j i : ℕ) → inSet nodes j ≡ true → inSet nodes i ≡ true → Phased t n c ends w j i → TakesIf i j w u → Phased t n c ends u j (i + 1)
-  phased-turn {w} {u} j i e f p s =
-      record {
-        is = λ g h.
-            phase-turn n (node t (inSet ends) c) (hopOf t (inSet ends) c 0) (hopOf t (inSet ends) c g) (λ x y. inSet (nth w (grid 0) x) y) (λ x y. inSet (nth w (grid g) x) y)
-            (λ x y. inSet (nth u (grid g) x) y) j i (p .is 0 (omega arith)) (p .is g h) (b .0) (a .0) (a .1) (λ x m o. s .is g x h)
-            (λ x y m o v d. ap (λ (z : Set). inSet z y) (s .kept .keep g x h (let l = ring .few in omega arith) d));
-        low = λ g x y h m o v. lower g x y h m o v (ℕ-discrete x i);
-      }
-    where
-      a : (j < n) × (node t (inSet ends) c j ≡ true)
-      a = member-on j e
-
-      b : (i < n) × (node t (inSet ends) c i ≡ true)
-      b = member-on i f
-
-      lower : (g x y : ℕ) → g < 3 → x < n → node t (inSet ends) c x ≡ true → inSet (nth u (grid g) x) y ≡ true → Dec (x ≡ i) → y < n
-      lower g x y h m o v (yes d) =
-          ⊎-elim (λ q. p .low g i y h (b .0) (b .1) q) (λ q. p .low g j y h (a .0) (a .1) (split q .1))
-          (or-cases _ _ (sym (s .is g y h) ∙ ap (λ (z : ℕ). inSet (nth u (grid g) z) y) (sym d) ∙ v))
-      lower g x y h m o v (no d) = p .low g x y h m o (sym (ap (λ (z : Set). inSet z y) (s .kept .keep g x h (let l = ring .few in omega arith) d)) ∙ v)
-
-  phased-next : (w : List ℕ) (j : ℕ) → Phased t n c ends w j n → Phased t n c ends w (j + 1) 0
-  phased-next w j p =
-      record { is = λ g h. phase-next n (node t (inSet ends) c) (hopOf t (inSet ends) c 0) (hopOf t (inSet ends) c g) _ j (p .is g h); low = p .low }
-
-  phased-skip : (w : List ℕ) (j : ℕ) → inSet nodes j ≡ false → Phased t n c ends w (min j n) 0 → Phased t n c ends w (min (j + 1) n) 0
-  unfolding hopOf nodeHop
-  phased-skip w j e p = go (decLt j n)
-    where
-      go : Dec (j < n) → Phased t n c ends w (min (j + 1) n) 0
-      go (yes l) =
-          let a : min j n ≡ j = omega arith in
-          let b : j + 1 ≡ min (j + 1) n = omega arith in
-          let o = member-off j l e in
-          let q : Phased t n c ends w j 0 = subst (λ (z : ℕ). Phased t n c ends w z 0) a p in
-          subst (λ (z : ℕ). Phased t n c ends w z 0) b
-          (record {
-            is = λ g h.
-                phase-skip n (node t (inSet ends) c) (hopOf t (inSet ends) c 0) (hopOf t (inSet ends) c g) _ j (λ x. and-false-left _ _ o) (λ x. and-false-left _ _ o) (q .is g h);
-            low = p .low;
-          })
-      go (no l) = subst (λ (z : ℕ). Phased t n c ends w z 0) (let a : min j n ≡ min (j + 1) n = omega arith in a) p
-
-  phased-begin : (w : List ℕ) → Each t n c ends (ownOf t c) w → Phased t n c ends w 0 0
-  unfolding hopOf nodeHop ownOf
-  phased-begin w h =
-      record {
-        is = λ g m.
-            phase-none n (node t (inSet ends) c) (hopOf t (inSet ends) c 0) (hopOf t (inSet ends) c g) _
-            (λ x y a b o. h .is x a o .is g y m ∙ and-on _ _ (lt-ltb y n b) ∙ sym (and-on _ _ o));
-        low = λ g x y m a o v. ltb-true y n (split (sym (h .is x a o .is g y m) ∙ v) .0);
-      }
-
-  phased-end : (w : List ℕ) → Phased t n c ends w n 0 → Each t n c ends (reachOf t c) w
-  unfolding hopOf reachOf sortAt
-  phased-end w p = record { is = λ j l o. record { is = λ g x h. bool-ext _ _ (out j l o g x h) (back j l o g x h) } }
-    where
-      cell : (j : ℕ) → j < n → node t (inSet ends) c j ≡ true → (g x : ℕ) → g < 3 → x < n → inSet (nth w (grid g) j) x ≡ interThread t c (itself j) (sortAt t g x)
-      cell j l o g x h m =
-          phase-all n (node t (inSet ends) c) (hopOf t (inSet ends) c 0) (hopOf t (inSet ends) c g) _ n (p .is g h) j x l m o
-          ∙ ap (λ (k : ℕ). closedTo (hopOf t (inSet ends) c 0) (hopOf t (inSet ends) c g) k j x) (sym (ring .rows))
-          ∙ closed-nodes t c (inSet ends) (ring .told) (sortAt t g) j x (let r = ring .rows in omega arith) ∙ and-on _ _ o
-
-      out : (j : ℕ) → j < n → node t (inSet ends) c j ≡ true → (g x : ℕ) → g < 3 → inSet (nth w (grid g) j) x ≡ true → (ltb x n and interThread t c (itself j) (sortAt t g x)) ≡ true
-      out j l o g x h v = let m = p .low g j x h l o v in and-true (lt-ltb x n m) (sym (cell j l o g x h m) ∙ v)
-
-      back : (j : ℕ) → j < n → node t (inSet ends) c j ≡ true → (g x : ℕ) → g < 3 → (ltb x n and interThread t c (itself j) (sortAt t g x)) ≡ true → inSet (nth w (grid g) j) x ≡ true
-      back j l o g x h v = let a = split v in cell j l o g x h (ltb-true x n (a .0)) ∙ a .1
-
--- ---- laws: the loops
-
-pub record Rounding (j : ℕ) (nodes : Set) (w : List ℕ) (m : ℕ) (u : List ℕ) : Type 0 where
-  pub to : (t : Table) (n c : ℕ) (ends : Set) → Ring t n c ends nodes → inSet nodes j ≡ true → Phased t n c ends w j 0 → Phased t n c ends u j (min m n)
-
-round-skip : (j : ℕ) (nodes : Set) (w u : List ℕ) (m : ℕ) → inSet nodes m ≡ false → Rounding j nodes w m u → Rounding j nodes w (m + 1) u
-round-skip j nodes w u m e p = record { to = λ t n c ends r i q. phased-pass r u j m i e (p .to t n c ends r i q) }
-
-pub round-begin : (j : ℕ) (nodes : Set) (w : List ℕ) → Walk nodes nodes × Rounding j nodes w (First.next nodes) w
-round-begin j nodes w =
-    walk-begin nodes (λ m. Rounding j nodes w m w) (round-skip j nodes w w)
-    (record { to = λ t n c ends r i q. subst (λ (z : ℕ). Phased t n c ends w j z) (let a : 0 ≡ min 0 n = omega arith in a) q })
-
-pub round-turn : {j : ℕ} {nodes : Set} {w u v : List ℕ} {left rest : Set} {i : ℕ} → Walk nodes left × Rounding j nodes w (First.next left) u → First left i → Rest left rest → TakesIf i j u v
-    → Walk nodes rest × Rounding j nodes w (First.next rest) v
-round-turn {j} {nodes} {w} {u} {v} {left} {rest} {i} inv low r s =
-    walk-turn nodes (λ m. Rounding j nodes w m v) (round-skip j nodes w v) (inv .0) low r
-    (record {
-      to = λ t n c ends ring h q.
-          let m = walk-in (inv .0) low in
-          let l = member-on ring i m .0 in
-          let e = first-next low in
-          let a : min (First.next left) n ≡ i = omega arith in
-          let b : i + 1 ≡ min (i + 1) n = omega arith in
-          subst (λ (z : ℕ). Phased t n c ends v j z) b
-          (phased-turn ring j i h m (subst (λ (z : ℕ). Phased t n c ends u j z) a (inv .1 .to t n c ends ring h q)) s);
-    })
-
-pub round-end : {j : ℕ} {nodes : Set} {w u : List ℕ} (left : Set) → anyBelow ROWS (inSet left) ≡ false → Rounding j nodes w (First.next left) u → Within REACH-AT REACH-END w u
-    → ClosesAt j nodes w u
-round-end {j} {nodes} {w} {u} left e p f =
-    record {
-      to = λ t n c ends ring i q.
-          let l = ring .few in
-          phased-next ring u j (subst (λ (z : ℕ). Phased t n c ends u j z) (let a : min ROWS n ≡ n = omega arith in a) (all .to t n c ends ring i q));
-      frame = f;
-    }
+-- where one that passed doesn't, and none does that didn't
+count-falls : (p q : ℕ → Bool) (n i : ℕ) → i < n → p i ≡ true → q i ≡ false → ((k : ℕ) → q k ≡ true → p k ≡ true) → countBelow n q < countBelow n p
+unfolding countBelow one
+count-falls p q zero i l a b h = absurd (omega arith)
+count-falls p q (suc n) i l a b h = go (ℕ-discrete i n) (λ o. count-falls p q n i o a b h)
   where
-    all : Rounding j nodes w ROWS u
-    all = walk-end nodes (λ m. Rounding j nodes w m u) (round-skip j nodes w u) left e p
+    go : Dec (i ≡ n) → (i < n → countBelow n q < countBelow n p) → countBelow n q + one (q n) < countBelow n p + one (p n)
+    go (yes e) ih =
+        let c = count-under p q n h in
+        let s : p n ≡ true = subst (λ (z : ℕ). p z ≡ true) e a in
+        let t : q n ≡ false = subst (λ (z : ℕ). q z ≡ false) e b in
+        rw (s, t) (omega (arith, c))
+    go (no e) ih =
+        let c = ih (omega arith) in
+        let s = one-under (q n) (p n) (h n) in
+        omega (arith, c, s)
 
-pub record Closing (nodes : Set) (w : List ℕ) (m : ℕ) (u : List ℕ) : Type 0 where
-  pub to : (t : Table) (n c : ℕ) (ends : Set) → Ring t n c ends nodes → Each t n c ends (ownOf t c) w → Phased t n c ends u (min m n) 0
+-- how many rows aren't seen
+abbrev pub unseen : Set → ℕ
+unseen seen = countBelow ROWS (λ k. not (inSet seen k))
 
-close-skip : (nodes : Set) (w u : List ℕ) (m : ℕ) → inSet nodes m ≡ false → Closing nodes w m u → Closing nodes w (m + 1) u
-close-skip nodes w u m e p = record { to = λ t n c ends r h. phased-skip r u m e (p .to t n c ends r h) }
+pub see-less : {h : ℕ} {nodes waiting : Set} {w u : List ℕ} {left seen : Set} {j : ℕ} (v : List ℕ) (b rest : Set) → Seeing h nodes waiting w left seen u → First left j
+    → ((y : ℕ) → inSet b y ≡ (eqb y j or (not (inSet waiting j) and held v 0 j y))) → ((y : ℕ) → inSet rest y ≡ (inSet seen y or inSet b y)) → unseen rest < unseen seen
+see-less {left = left} {seen} {j} v b rest inv low eb er =
+    count-falls (λ k. not (inSet seen k)) (λ k. not (inSet rest k)) ROWS j (low .bound) (split (sym (inv .ahead j) ∙ low .hit) .1)
+    (ap not (er j ∙ or-right _ (eb j ∙ or-left _ (eq-eqb j j refl))))
+    (λ k e. not-in (or-false (inSet seen k) (inSet b k) (sym (er k) ∙ not-out (inSet rest k) e) .0))
 
-pub close-begin : (nodes : Set) (w : List ℕ) → Walk nodes nodes × Closing nodes w (First.next nodes) w
-close-begin nodes w =
-    walk-begin nodes (λ m. Closing nodes w m w) (close-skip nodes w w)
-    (record { to = λ t n c ends r h. subst (λ (z : ℕ). Phased t n c ends w z 0) (let a : 0 ≡ min 0 n = omega arith in a) (phased-begin r w h) })
+pub close-less : (left rest : Set) (h : ℕ) → h < ROWS → inSet left h ≡ true → ((j : ℕ) → inSet rest j ≡ (inSet left j and not (eqb j h)))
+    → countBelow ROWS (inSet rest) < countBelow ROWS (inSet left)
+close-less left rest h l e er =
+    count-falls (inSet left) (inSet rest) ROWS h l e (er h ∙ and-false-right _ _ (ap not (eq-eqb h h refl))) (λ k f. split (sym (er k) ∙ f) .0)
 
-pub close-turn : {nodes : Set} {w u v : List ℕ} {left rest : Set} {j : ℕ} → Walk nodes left × Closing nodes w (First.next left) u → First left j → Rest left rest → ClosesAt j nodes u v
-    → Walk nodes rest × Closing nodes w (First.next rest) v
-close-turn {nodes} {w} {u} {v} {left} {rest} {j} inv low r s =
-    walk-turn nodes (λ m. Closing nodes w m v) (close-skip nodes w v) (inv .0) low r
-    (record {
-      to = λ t n c ends ring h.
-          let m = walk-in (inv .0) low in
-          let l = member-on ring j m .0 in
-          let e = first-next low in
-          let a : min (First.next left) n ≡ j = omega arith in
-          let b : j + 1 ≡ min (j + 1) n = omega arith in
-          subst (λ (z : ℕ). Phased t n c ends v z 0) b (s .to t n c ends ring m (subst (λ (z : ℕ). Phased t n c ends u z 0) a (inv .1 .to t n c ends ring h)));
-    })
+-- ---- laws: node by node
 
-pub close-end : {nodes : Set} {w u : List ℕ} (left : Set) → anyBelow ROWS (inSet left) ≡ false → Closing nodes w (First.next left) u → Within REACH-AT REACH-END w u → Closes nodes w u
-close-end {nodes} {w} {u} left e p f =
-    record {
-      to = λ t n c ends ring h.
-          let l = ring .few in
-          phased-end ring u (subst (λ (z : ℕ). Phased t n c ends u z 0) (let a : min ROWS n ≡ n = omega arith in a) (all .to t n c ends ring h));
-      frame = f;
-    }
+pub close-begin : (nodes : Set) (w : List ℕ) → Closing nodes w nodes w
+close-begin nodes w = record { sub = λ j e. e; to = λ t n c ends p. p; frame = within-refl REACH-AT REACH-END w }
+
+pub close-turn : {nodes : Set} {w u v : List ℕ} {left : Set} {h : ℕ} (rest : Set) → Closing nodes w left u → inSet left h ≡ true → Searches h nodes left u v
+    → ((j : ℕ) → inSet rest j ≡ (inSet left j and not (eqb j h))) → Closing nodes w rest v
+close-turn {nodes} {w} {u} {v} {left} {h} rest inv e s er =
+    record { sub = λ j f. inv .sub j (split (sym (er j) ∙ f) .0); to = λ t n c ends p. to t n c ends (inv .to t n c ends p); frame = within-trans (inv .frame) (s .kept .frame) }
   where
-    all : Closing nodes w ROWS u
-    all = walk-end nodes (λ m. Closing nodes w m u) (close-skip nodes w u) left e p
+    to : (t : Table) (n c : ℕ) (ends : Set) → Partly t n c ends nodes left u → Partly t n c ends nodes rest v
+    to t n c ends p =
+        record { rows = p .rows; few = p .few; told = p .told; members = p .members; part = λ j o. part j o (ℕ-discrete j h); done = λ j o f. done j o f (ℕ-discrete j h) }
+      where
+        on : inSet nodes h ≡ true
+        on = inv .sub h e
+
+        all : Has n h (λ i x. reachOf t c i h x) v
+        all = s .all t n c ends p on e
+
+        part : (j : ℕ) → inSet nodes j ≡ true → Dec (j ≡ h) → Part t n c j v
+        part j o (yes d) = subst (λ (z : ℕ). Part t n c z v) (sym d) (part-all all)
+        part j o (no d) = part-kept (small p j o) d (s .kept) (p .part j o)
+
+        done : (j : ℕ) → inSet nodes j ≡ true → inSet rest j ≡ false → Dec (j ≡ h) → Has n j (λ i x. reachOf t c i j x) v
+        done j o f (yes d) = subst (λ (z : ℕ). Has n z (λ i x. reachOf t c i z x) v) (sym d) all
+        done j o f (no d) =
+            has-kept (small p j o) d (s .kept) (p .done j o (not-so (inSet left j) (λ g. not-both (er j ∙ and-true g (not-in (ne-eqb j h d))) f)))
+
+pub close-end : {nodes : Set} {w u : List ℕ} (left : Set) → anyBelow ROWS (inSet left) ≡ false → Closing nodes w left u → Closes nodes w u
+close-end left e inv =
+    record {
+      to = λ t n c ends p j l o.
+          let q = inv .to t n c ends p in
+          let a = q .few in
+          q .done j (rows-in (q .members) j l ∙ o) (any-off (inSet left) ROWS e j (omega arith));
+      frame = inv .frame;
+    }
 
 -- ---- laws: what is made
 
@@ -824,13 +860,7 @@ pub made-down : {t : Table} {n c : ℕ} {ends : Set} {k : Concerned} {down : Boo
 made-down {c = c} {ends = ends} a e p = reach-made (λ j l o. p .to c ends (asking-of a) (a .leads e) .is j (omega arith) l o) (p .frame)
 
 pub made-around : {t : Table} {n c : ℕ} {ends : Set} {k : Concerned} {down : Bool} {s w v u : List ℕ} → Asks t n c ends k down s w → PutsAll t n k w v → Closes (k .nodes) v u → MadeReach t n c ends w u
-made-around {t} {n} {c} {ends} {k} {w = w} a p q =
-    reach-made
-    (q .to t n c ends (record { rows = b .rows; few = b .few; told = b .told .told; members = b .concerns .nodes }) (p .own c ends b) .is)
-    (within-trans (p .frame) (q .frame))
-  where
-    b : Asking t n c ends k w
-    b = asking-of a
+made-around {t} {n} {c} {ends} a p q = reach-made (q .to t n c ends (p .own c ends (asking-of a))) (within-trans (p .frame) (q .frame))
 
 pub nodes-low : {t : Table} {n c : ℕ} {ends : Set} {k : Concerned} {down : Bool} {s w : List ℕ} → Asks t n c ends k down s w → (j : ℕ) → inSet (k .nodes) j ≡ true → j < n
 nodes-low a j e = member-in j (a .concerns .nodes) e .0

@@ -1,8 +1,10 @@
 // M6 by sets of rows: inter-thread order for one class set, from its nodes. What a path goes by, between its ends, are nodes.
 ghost use mathlib.Core.Path.{_≡_};
-ghost use mathlib.Core.Bool.{true};
+ghost use mathlib.Core.Bool.{true, not};
 ghost use Prim.Native.Nat.{ℕ, _≤_, _<_};
 ghost use lib.ListN.{length};
+ghost use lib.Dec.{eqb};
+ghost use Rattle.finite.specs.Logic.{_and_, _or_};
 ghost use Rattle.model.specs.Limits.{ROWS, WORK};
 ghost use Rattle.run.specs.Layout.{tableIn};
 ghost use Rattle.sets_of_rows.specs.declared.Set.{Set};
@@ -10,7 +12,7 @@ ghost use Rattle.sets_of_rows.specs.Member.{inSet};
 ghost use Rattle.sets_of_rows.specs.Rows.{Rows};
 ghost use Rattle.sets_grids.specs.Given.{Given};
 ghost use Rattle.sets_grids.specs.Reach.{Asks, MadeReach};
-ghost use Rattle.sets_closure.specs.Reaching.{Asking, ownOf, PutDirect, Took, Follows, PassesNode, PassesUp, PutsAll, TakesIf, ClosesAt, Closes};
+ghost use Rattle.sets_closure.specs.Reaching.{Asking, ownOf, PutDirect, Took, Follows, PassesNode, PassesUp, PutsAll, held, Searches, Closes};
 use run::Run;
 use sets_grids::Concerned;
 use sets_of_rows::Set;
@@ -121,40 +123,56 @@ fn put_all_direct(t: &Run, n: usize, s: &[u64], k: Concerned, w: &mut [u64])
     }
 }
 
-// Node i takes in what node j reaches, if it reaches j.
-fn take_if(i: usize, j: usize, w: &mut [u64])
-    requires { ⌜ (i < ROWS) × (j < ROWS) × (WORK ≤ length (now w)) ⌝ }
-    ensures { λ _. ⌜ TakesIf i j (now (w .entry)) (now (w .exit)) ⌝ }
+// The nodes that node h reaches, as far as is known, and that aren't seen.
+fn ahead(h: usize, nodes: Set, seen: Set, w: &[u64]) -> Set
+    requires { ⌜ (h < ROWS) × (WORK ≤ length (now w)) ⌝ }
+    ensures { λ x. ⌜ ((y : ℕ) → inSet x y ≡ (held (now (w .entry)) 0 h y and inSet nodes y and not (inSet seen y))) ⌝ }
 {
-    if !sets_of_rows::has(kept::get(w, sets_grids::REACH_AT, i), j) {
-        return;
-    }
-    take_in(i, j, w);
+    sets_of_rows::less(
+        sets_of_rows::and(kept::get(w, sets_grids::REACH_AT, h), nodes),
+        seen,
+    )
 }
 
-// A round of Warshall's algorithm, at node j.
-fn close_at(j: usize, nodes: Set, w: &mut [u64])
+// What needs no look once node j is taken in: j, and what it reaches if it has all of that.
+fn behind(j: usize, waiting: Set, w: &[u64]) -> Set
     requires { ⌜ (j < ROWS) × (WORK ≤ length (now w)) ⌝ }
-    ensures { λ _. ⌜ ClosesAt j nodes (now (w .entry)) (now (w .exit)) ⌝ }
+    ensures { λ x. ⌜ ((y : ℕ) → inSet x y ≡ (eqb y j or (not (inSet waiting j) and held (now (w .entry)) 0 j y))) ⌝ }
 {
-    let mut left = nodes;
+    sets_of_rows::or(
+        sets_of_rows::bit(j),
+        sets_of_rows::only_if(
+            !sets_of_rows::has(waiting, j),
+            kept::get(w, sets_grids::REACH_AT, j),
+        ),
+    )
+}
+
+// Node h takes in all that it reaches, from node to node; nodes that aren't `waiting` have all that they reach.
+fn search(h: usize, nodes: Set, waiting: Set, w: &mut [u64])
+    requires { ⌜ (h < ROWS) × (WORK ≤ length (now w)) ⌝ }
+    ensures { λ _. ⌜ Searches h nodes waiting (now (w .entry)) (now (w .exit)) ⌝ }
+{
+    let mut seen = sets_of_rows::none();
+    let mut left = ahead(h, nodes, seen, w);
     while sets_of_rows::some(left) {
-        let i = sets_of_rows::first(left);
-        left = sets_of_rows::but_first(left);
-        take_if(i, j, w);
+        let j = sets_of_rows::first(left);
+        take_in(h, j, w);
+        seen = sets_of_rows::or(seen, behind(j, waiting, w));
+        left = ahead(h, nodes, seen, w);
     }
 }
 
-// Wherever they lead: Warshall's algorithm.
+// Wherever they lead: a search from each node.
 fn close(nodes: Set, w: &mut [u64])
     requires { ⌜ WORK ≤ length (now w) ⌝ }
     ensures { λ _. ⌜ Closes nodes (now (w .entry)) (now (w .exit)) ⌝ }
 {
     let mut left = nodes;
     while sets_of_rows::some(left) {
-        let j = sets_of_rows::first(left);
-        left = sets_of_rows::but_first(left);
-        close_at(j, nodes, w);
+        let h = sets_of_rows::first(left);
+        search(h, nodes, left, w);
+        left = sets_of_rows::drop(left, h);
     }
 }
 

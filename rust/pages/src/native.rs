@@ -30,7 +30,7 @@ natives! {
     Suc 1 "suc", Add 2 "_+_", Subtract 2 "_-_", Multiply 2 "_*_", Divide 2 "_/_", Remainder 2 "_%_",
     Less 2 "ltb" | "_<_", AtMost 2 "leb", Same 2 "eqb" | "Bool·beq" | "_≡_", BitAnd 2 "bitAnd",
     Not 1 "not", Cond 3 "cond", And 2 "_and_" | "_×_", Or 2 "_or_" | "_⊎_", Implies 2 "_→_",
-    Cons 2 "_∷_", Append 2 "_++_", GetD 3 "getD", Take 2 "take", Drop 2 "drop",
+    Cons 2 "_∷_", Append 2 "_++_", GetD 3 "getD", Set 3 "set", Take 2 "take", Drop 2 "drop",
     Replicate 2 "replicate", Length 1 "length", Round 4 "round", Now 1 "now",
     AnyBelow 2 "anyBelow", AllBelow 2 "allBelow", Least 2 "least", Tabulate 2 "tabulate",
     Through 4 "through",
@@ -114,6 +114,13 @@ impl Evaluator {
                 Some(found) => return self.force(found),
                 None => return self.eval(&arguments[2], env),
             },
+            (Set, List(list), Number(place)) => {
+                let mut values = list.to_vec();
+                if let Some(value) = values.get_mut(*place as usize) {
+                    *value = self.eval(&arguments[2], env)?;
+                }
+                Value::list(values)
+            }
             (Take, Number(a), List(list)) => {
                 Value::list(list.iter().take(*a as usize).cloned().collect())
             }

@@ -9,7 +9,7 @@ use native.Mathlib.Omega.{arith}
 use native.Mathlib.Decide.{ℕ-discrete}
 use lib.Dec.{eqb, ltb}
 use borrow.Author.Tests.{eqb-true, eq-eqb, ne-eqb, ltb-true, lt-ltb, leb-true, le-leb}
-use Rattle.finite.specs.Logic.{_and_, _or_, which, bool-ext, split, and-true, and-on-right, and-false-left, and-false-right, or-cases, or-left, or-right, or-false, not-both, not-so, not-in, not-out}
+use Rattle.finite.specs.Logic.{_and_, _or_, which, bool-ext, split, and-true, and-false-left, and-false-right, or-cases, or-left, or-right, or-false, not-both, not-so, not-in, not-out}
 use Rattle.finite.specs.Below.{anyBelow, any-off}
 use Rattle.finite.specs.Count.{one, countBelow}
 use Rattle.model.specs.Limits.{ROWS}
@@ -115,12 +115,6 @@ pub record PutsAll (t : Table) (n : ℕ) (k : Concerned) (w u : List ℕ) : Type
 pub record Searches (h : ℕ) (nodes waiting : Set) (w u : List ℕ) : Type 0 where
   pub all : (t : Table) (n c : ℕ) (ends : Set) → Partly t n c ends nodes waiting w → inSet waiting h ≡ true → Has n h (λ i x. reachOf t c i h x) u
   pub kept : Kept h w u
-
--- row h's turn: it waits no more
-pub record Turns (h : ℕ) (nodes waiting : Set) (w u : List ℕ) (rest : Set) : Type 0 where
-  pub gone : (j : ℕ) → inSet rest j ≡ (inSet waiting j and not (eqb j h))
-  pub to : (t : Table) (n c : ℕ) (ends : Set) → Partly t n c ends nodes waiting w → Partly t n c ends nodes rest u
-  pub frame : Within REACH-AT REACH-END w u
 
 pub record Closes (n : ℕ) (nodes : Set) (w u : List ℕ) : Type 0 where
   pub to : (t : Table) (c : ℕ) (ends : Set) → Partly t n c ends nodes nodes w → (j : ℕ) → j < n → node t (inSet ends) c j ≡ true → Has n j (λ i x. reachOf t c i j x) u
@@ -562,41 +556,6 @@ see-less {left = left} {seen} {j} v b rest inv low eb er =
 
 -- ---- laws: turn by turn
 
-pub turn-on : {h : ℕ} {nodes waiting : Set} {w u : List ℕ} (rest : Set) (b : Bool) → b ≡ inSet waiting h → b ≡ true → Searches h nodes waiting w u
-    → ((j : ℕ) → inSet rest j ≡ (inSet waiting j and not (eqb j h))) → Turns h nodes waiting w u rest
-turn-on {h} {nodes} {waiting} {w} {u} rest b eb e s er = record { gone = er; to = to; frame = s .kept .frame }
-  where
-    to : (t : Table) (n c : ℕ) (ends : Set) → Partly t n c ends nodes waiting w → Partly t n c ends nodes rest u
-    to t n c ends p =
-        record {
-          rows = p .rows;
-          few = p .few;
-          told = p .told;
-          members = p .members;
-          sub = λ j f. p .sub j (split (sym (er j) ∙ f) .0);
-          part = λ j o. part j o (ℕ-discrete j h);
-          done = λ j o f. done j o f (ℕ-discrete j h);
-        }
-      where
-        all : Has n h (λ i x. reachOf t c i h x) u
-        all = s .all t n c ends p (sym eb ∙ e)
-
-        part : (j : ℕ) → inSet nodes j ≡ true → Dec (j ≡ h) → Part t n c j u
-        part j o (yes d) = subst (λ (z : ℕ). Part t n c z u) (sym d) (part-all all)
-        part j o (no d) = part-kept (small p j o) d (s .kept) (p .part j o)
-
-        done : (j : ℕ) → inSet nodes j ≡ true → inSet rest j ≡ false → Dec (j ≡ h) → Has n j (λ i x. reachOf t c i j x) u
-        done j o f (yes d) = subst (λ (z : ℕ). Has n z (λ i x. reachOf t c i z x) u) (sym d) all
-        done j o f (no d) =
-            has-kept (small p j o) d (s .kept) (p .done j o (not-so (inSet waiting j) (λ g. not-both (er j ∙ and-true g (not-in (ne-eqb j h d))) f)))
-
-pub turn-off : {h : ℕ} {nodes waiting : Set} {w : List ℕ} (b : Bool) → b ≡ inSet waiting h → b ≡ false → Turns h nodes waiting w w waiting
-turn-off {h} {nodes} {waiting} {w} b eb e = record { gone = λ j. go j (ℕ-discrete j h); to = λ t n c ends p. p; frame = within-refl REACH-AT REACH-END w }
-  where
-    go : (j : ℕ) → Dec (j ≡ h) → inSet waiting j ≡ (inSet waiting j and not (eqb j h))
-    go j (yes d) = let f = ap (inSet waiting) d ∙ sym eb ∙ e in f ∙ sym (and-false-left _ _ f)
-    go j (no d) = sym (and-on-right _ _ (not-in (ne-eqb j h d)))
-
 pub turn-low : (n i : ℕ) (down : Bool) → i < n → turnOf n down i < n
 turn-low n i true l = omega arith
 turn-low n i false l = l
@@ -609,15 +568,50 @@ turn-back n i j false l m e = e
 pub close-begin : (n : ℕ) (nodes : Set) (down : Bool) (w : List ℕ) → Closing n nodes down w 0 nodes w
 close-begin n nodes down w = record { gone = λ j l o. absurd (omega arith); to = λ t c ends p. p; frame = within-refl REACH-AT REACH-END w }
 
-pub close-turn : {n : ℕ} {nodes : Set} {down : Bool} {w u v : List ℕ} {i : ℕ} {waiting : Set} (h : ℕ) (rest : Set) → i < n → h ≡ turnOf n down i → Closing n nodes down w i waiting u
-    → Turns h nodes waiting u v rest → Closing n nodes down w (i + 1) rest v
-close-turn {n} {nodes} {down} {w} {u} {v} {i} {waiting} h rest l e inv s =
-    record { gone = λ j m o. go j m o (ℕ-discrete j h); to = λ t c ends p. s .to t n c ends (inv .to t c ends p); frame = within-trans (inv .frame) (s .frame) }
+-- what had its turn before row h's
+earlier : (n i h j : ℕ) (down : Bool) → i < n → h ≡ turnOf n down i → j < n → turnOf n down j < i + 1 → (j ≡ h → ⊥) → turnOf n down j < i
+earlier n i h j down l e m o d = let f : (turnOf n down j ≡ i → ⊥) = λ g. d (turn-back n i j down l m g ∙ sym e) in omega (arith, o, f)
+
+pub close-skip : {n : ℕ} {nodes : Set} {down : Bool} {w u : List ℕ} {i : ℕ} {waiting : Set} (h : ℕ) (b : Bool) → i < n → h ≡ turnOf n down i → b ≡ inSet waiting h → b ≡ false
+    → Closing n nodes down w i waiting u → Closing n nodes down w (i + 1) waiting u
+close-skip {n} {nodes} {down} {w} {u} {i} {waiting} h b l e eb f inv = record { gone = λ j m o. go j m o (ℕ-discrete j h); to = inv .to; frame = inv .frame }
+  where
+    go : (j : ℕ) → j < n → turnOf n down j < i + 1 → Dec (j ≡ h) → inSet waiting j ≡ false
+    go j m o (yes d) = ap (inSet waiting) d ∙ sym eb ∙ f
+    go j m o (no d) = inv .gone j m (earlier n i h j down l e m o d)
+
+pub close-turn : {n : ℕ} {nodes : Set} {down : Bool} {w u v : List ℕ} {i : ℕ} {waiting : Set} (h : ℕ) (b : Bool) (rest : Set) → i < n → h ≡ turnOf n down i → b ≡ inSet waiting h → b ≡ true
+    → Closing n nodes down w i waiting u → Searches h nodes waiting u v → ((j : ℕ) → inSet rest j ≡ (inSet waiting j and not (eqb j h))) → Closing n nodes down w (i + 1) rest v
+close-turn {n} {nodes} {down} {w} {u} {v} {i} {waiting} h b rest l e eb f inv s er =
+    record { gone = λ j m o. go j m o (ℕ-discrete j h); to = λ t c ends p. to t c ends (inv .to t c ends p); frame = within-trans (inv .frame) (s .kept .frame) }
   where
     go : (j : ℕ) → j < n → turnOf n down j < i + 1 → Dec (j ≡ h) → inSet rest j ≡ false
-    go j m o (yes d) = s .gone j ∙ and-false-right _ _ (ap not (eq-eqb j h d))
-    go j m o (no d) =
-        s .gone j ∙ and-false-left _ _ (inv .gone j m (let f : (turnOf n down j ≡ i → ⊥) = λ g. d (turn-back n i j down l m g ∙ sym e) in omega (arith, o, f)))
+    go j m o (yes d) = er j ∙ and-false-right _ _ (ap not (eq-eqb j h d))
+    go j m o (no d) = er j ∙ and-false-left _ _ (inv .gone j m (earlier n i h j down l e m o d))
+
+    to : (t : Table) (c : ℕ) (ends : Set) → Partly t n c ends nodes waiting u → Partly t n c ends nodes rest v
+    to t c ends p =
+        record {
+          rows = p .rows;
+          few = p .few;
+          told = p .told;
+          members = p .members;
+          sub = λ j o. p .sub j (split (sym (er j) ∙ o) .0);
+          part = λ j o. part j o (ℕ-discrete j h);
+          done = λ j o r. done j o r (ℕ-discrete j h);
+        }
+      where
+        all : Has n h (λ k x. reachOf t c k h x) v
+        all = s .all t n c ends p (sym eb ∙ f)
+
+        part : (j : ℕ) → inSet nodes j ≡ true → Dec (j ≡ h) → Part t n c j v
+        part j o (yes d) = subst (λ (z : ℕ). Part t n c z v) (sym d) (part-all all)
+        part j o (no d) = part-kept (small p j o) d (s .kept) (p .part j o)
+
+        done : (j : ℕ) → inSet nodes j ≡ true → inSet rest j ≡ false → Dec (j ≡ h) → Has n j (λ k x. reachOf t c k j x) v
+        done j o r (yes d) = subst (λ (z : ℕ). Has n z (λ k x. reachOf t c k z x) v) (sym d) all
+        done j o r (no d) =
+            has-kept (small p j o) d (s .kept) (p .done j o (not-so (inSet waiting j) (λ g. not-both (er j ∙ and-true g (not-in (ne-eqb j h d))) r)))
 
 pub close-end : {n : ℕ} {nodes : Set} {down : Bool} {w u : List ℕ} (i : ℕ) (waiting : Set) → n ≤ i → Closing n nodes down w i waiting u → Closes n nodes w u
 close-end {n} {down = down} i waiting l inv =

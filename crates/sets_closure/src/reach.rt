@@ -12,7 +12,7 @@ ghost use Rattle.sets_of_rows.specs.Member.{inSet};
 ghost use Rattle.sets_of_rows.specs.Rows.{Rows};
 ghost use Rattle.sets_grids.specs.Given.{Given};
 ghost use Rattle.sets_grids.specs.Reach.{Asks, MadeReach};
-ghost use Rattle.sets_closure.specs.Reaching.{Asking, ownOf, held, PutDirect, Took, PutsAll, Searches, Turns, Closes, turnOf};
+ghost use Rattle.sets_closure.specs.Reaching.{Asking, ownOf, held, PutDirect, Took, PutsAll, Searches, Closes, turnOf};
 use run::Run;
 use sets_grids::Concerned;
 use sets_of_rows::Set;
@@ -125,22 +125,10 @@ fn search(h: usize, nodes: Set, waiting: Set, w: &mut [u64])
     }
 }
 
-// The turn of row h, if it is a node that waits; those that wait after it.
-fn take_turn(h: usize, nodes: Set, waiting: Set, w: &mut [u64]) -> Set
-    requires { ⌜ (h < ROWS) × (WORK ≤ length (now w)) ⌝ }
-    ensures { λ x. ⌜ Turns h nodes waiting (now (w .entry)) (now (w .exit)) x ⌝ }
-{
-    if !sets_of_rows::has(waiting, h) {
-        return waiting;
-    }
-    search(h, nodes, waiting, w);
-    sets_of_rows::drop(waiting, h)
-}
-
 // The row whose turn is the i-th of n.
 fn turn(n: usize, down: bool, i: usize) -> usize
     requires { ⌜ i < n ⌝ }
-    ensures { λ h. ⌜ h ≡ turnOf n down i ⌝ }
+    ensures { λ h. ⌜ (h ≡ turnOf n down i) × (h < n) ⌝ }
 {
     if down { n - 1 - i } else { i }
 }
@@ -153,7 +141,12 @@ fn close(n: usize, nodes: Set, down: bool, w: &mut [u64])
 {
     let mut waiting = nodes;
     for i in 0..n {
-        waiting = take_turn(turn(n, down, i), nodes, waiting, w);
+        let h = turn(n, down, i);
+        if !sets_of_rows::has(waiting, h) {
+            continue;
+        }
+        search(h, nodes, waiting, w);
+        waiting = sets_of_rows::drop(waiting, h);
     }
 }
 

@@ -1,5 +1,6 @@
 use Prim.Native.Nat.{_-_, _≤_}
-use Rattle.sets_closure.specs.Reaching.{Closing, close-begin, close-turn, close-end, turn-low}
+use borrow.Author.Tests.{not-true, not-false}
+use Rattle.sets_closure.specs.Reaching.{Closing, close-begin, close-skip, close-turn, close-end}
 use native.Mathlib.Omega.{arith}
 use borrow.Author.Needs.{needs}
 use Rattle.sets_closure.proofs.reach.close.Statement.{statement}
@@ -14,19 +15,28 @@ abbrev μ-loop : tie.MeasureT-loop
 loop-holds : tie.Need-loop-holds Inv-loop μ-loop
 loop-holds c = (search needs, close-begin _ _ _ _)
 
-take-turn-requires : tie.Need-take-turn-requires Inv-loop μ-loop
-take-turn-requires c κs =
-    let c-4 = c .before .before .before .before in
-    let l = c .before .before .loop-test .taken in
-    let a = turn-low _ _ (c-4 .before .args .down) l in
-    let e = c .before .turn .ensures in
-    let d = c .before .before .before .loop .inv .1 .frame .len in
-    (omega (arith, a, e, c-4 .before .pre .0), omega (arith, d, c-4 .before .pre .1))
+has-requires : tie.Need-has-requires Inv-loop μ-loop
+has-requires c κs = let a = c .turn .ensures .1 in omega (arith, c .before .before .before .before .pre .0)
 
 loop-again : tie.Need-loop-again Inv-loop μ-loop
-loop-again c =
+loop-again c = (search needs, close-skip _ _ (c .before .before .before .loop-test .taken) (c .before .before .turn .ensures .0) (c .before .has .ensures) (not-true _ (c .if1 .taken)) (c .before .before .before .before .loop .inv .1))
+
+search-requires : tie.Need-search-requires Inv-loop μ-loop
+search-requires c κs =
     let c-4 = c .before .before .before .before in
-    (search needs, close-turn _ _ (c-4 .before .loop-test .taken) (c-4 .turn .ensures) (c-4 .before .before .loop .inv .1) (c .before .before .take-turn .ensures))
+    let a = c .before .before .before .turn .ensures .1 in let d = c-4 .before .loop .inv .1 .frame .len in (omega (arith, c-4 .before .before .before .pre .0), omega (arith, c-4 .before .before .before .pre .1))
+
+drop-requires : tie.Need-drop-requires Inv-loop μ-loop
+drop-requires c κs =
+    let c-4 = c .before .before .before .before in
+    let c-8 = c-4 .before .before .before .before in
+    let a = c-4 .before .before .turn .ensures .1 in omega (arith, c-8 .before .before .pre .0)
+
+loop-again-2 : tie.Need-loop-again-2 Inv-loop μ-loop
+loop-again-2 c =
+    let c-4 = c .before .before .before .before in
+    let c-8 = c-4 .before .before .before .before in
+    (search needs, close-turn _ _ _ (c-8 .loop-test .taken) (c-4 .before .before .before .turn .ensures .0) (c-4 .before .before .has .ensures) (not-false _ (c-4 .before .if1 .left)) (c-8 .before .loop .inv .1) (c .before .before .before .search .ensures) (c .drop .ensures))
 
 same-length : tie.Need-same-length Inv-loop μ-loop
 same-length c = c .before .loop .inv .1 .frame .len
@@ -37,5 +47,5 @@ returns c = close-end _ _ (search needs) (c .before .loop .inv .1)
 pub close-spec : {M : Type 1} → statement M
 close-spec =
     tie.close
-    (tie.spec Inv-loop μ-loop loop-holds (λ c κs. search needs) take-turn-requires (λ c. search needs) (λ c. search needs) loop-again
-    same-length returns)
+    (tie.spec Inv-loop μ-loop loop-holds (λ c κs. search needs) has-requires (λ c. search needs) (λ c. search needs) loop-again
+    search-requires drop-requires (λ c. search needs) (λ c. search needs) loop-again-2 same-length returns)

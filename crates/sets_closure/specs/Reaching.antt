@@ -1,16 +1,16 @@
--- Inter-thread order from the nodes of a class set: three sets for each, of rows, visibility operations and availability operations. By one
--- pass up the page where every direct case leads down it, by a search from each node wherever they lead. Assumes nothing.
+-- Inter-thread order from the nodes of a class set: three sets for each, of rows, visibility operations and availability operations, by a
+-- search from each node. Assumes nothing.
 use mathlib.Core.Path.{_≡_, refl, sym, ap, ap₂, subst, _∙_}
 use mathlib.Core.Bool.{Bool, true, false, not, cond}
 use mathlib.Core.List.{List}
 use mathlib.Core.Logic.{_⊎_, inl, inr, ⊎-elim}
 use Prim.Native.Nat.{ℕ, zero, suc, _+_, _-_, _*_, _≤_, _<_}
 use native.Mathlib.Omega.{arith}
-use native.Mathlib.Decide.{decLt, ℕ-discrete}
+use native.Mathlib.Decide.{ℕ-discrete}
 use lib.Dec.{eqb, ltb}
 use borrow.Author.Tests.{eqb-true, eq-eqb, ne-eqb, ltb-true, lt-ltb, leb-true, le-leb}
-use Rattle.finite.specs.Logic.{_and_, _or_, which, bool-ext, split, and-true, and-false-right, or-cases, or-left, or-right, or-false, not-both, not-so, not-in, not-out}
-use Rattle.finite.specs.Below.{anyBelow, any-off, least-is, least-low}
+use Rattle.finite.specs.Logic.{_and_, _or_, which, bool-ext, split, and-true, and-false-left, and-false-right, or-cases, or-left, or-right, or-false, not-both, not-so, not-in, not-out}
+use Rattle.finite.specs.Below.{anyBelow, any-off}
 use Rattle.finite.specs.Count.{one, countBelow}
 use Rattle.model.specs.Limits.{ROWS}
 use Rattle.model.specs.Row.{plain, releases}
@@ -22,9 +22,8 @@ use Rattle.model.specs.Table.{Table}
 use Rattle.bits.specs.Within.{Within, within-refl, within-trans, within-widen}
 use Rattle.work_area.specs.Regions.{SYNC}
 use Rattle.model_closing.specs.Order.{laterRow, fromRow}
-use Rattle.model_closing.specs.Nodes.{holder, releaser, acquirer, node, Way, last, next, node-way, way-inter, inter-one, inter-trans}
-use Rattle.model_closing.specs.Direct.{takesPart, availableFor, visibleFor, meetsFor, directAvailable, directVisible, holder-is, meets-is, step-at, direct-available, direct-visible}
-use Rattle.model_closing.specs.Up.{Down}
+use Rattle.model_closing.specs.Nodes.{holder, releaser, acquirer, node, Way, last, next, node-way, inter-one, inter-trans}
+use Rattle.model_closing.specs.Direct.{takesPart, availableFor, visibleFor, meetsFor, directAvailable, directVisible, holder-is, step-at, direct-available, direct-visible}
 use Rattle.model_closing.specs.Sets.{reachedAt, reachedAvailable, reachedVisible}
 use Rattle.sets_of_rows.specs.declared.Set.{Set}
 use Rattle.sets_of_rows.specs.Member.{inSet}
@@ -32,8 +31,8 @@ use Rattle.sets_of_rows.specs.First.{First, first-next, Rest}
 use Rattle.sets_of_rows.specs.First
 use Rattle.sets_of_rows.specs.Kept.{setAt, set-kept, Stored, joined}
 use Rattle.sets_of_rows.specs.Family.{nth}
-use Rattle.sets_of_rows.specs.Rows.{Rows, rows-at, rows-in, rows-cong, rows-and, rows-or, rows-if}
-use Rattle.sets_of_rows.specs.Walk.{Walk, walk-begin, walk-turn, walk-end, walk-in, walk-less, rest-in, rest-more}
+use Rattle.sets_of_rows.specs.Rows.{Rows, rows-in, rows-cong, rows-and, rows-or, rows-if}
+use Rattle.sets_of_rows.specs.Walk.{Walk, walk-begin, walk-turn, walk-end}
 use Rattle.sets_grids.specs.Regions.{DEPENDS, REACH-AT, REACH-END}
 use Rattle.sets_grids.specs.Grid.{Grid, grid-at, grid-kept}
 use Rattle.sets_grids.specs.Given.{given-few}
@@ -86,44 +85,56 @@ pub record Took (h j : ℕ) (w u : List ℕ) : Type 0 where
   pub is : (k x : ℕ) → k < 3 → inSet (nth u (grid k) h) x ≡ (inSet (nth w (grid k) h) x or inSet (nth w (grid k) j) x)
   pub kept : Kept h w u
 
--- node h has what it leads to at once, and each node that it leads to has what it reaches
-pub record Ready (t : Table) (n c : ℕ) (ends : Set) (h : ℕ) (nodes : Set) (w : List ℕ) : Type 0 where
+-- x is in row h's set of sort k
+abbrev pub held : List ℕ → ℕ → ℕ → ℕ → Bool
+held w k h x = inSet (nth w (grid k) h) x
+
+-- row h has what row y leads to at once
+pub record Owns (t : Table) (n c y h : ℕ) (w : List ℕ) : Type 0 where
+  pub is : (k x : ℕ) → k < 3 → x < n → ownOf t c k y x ≡ true → held w k h x ≡ true
+
+-- row h has what it leads to at once, and nothing that it doesn't reach
+pub record Part (t : Table) (n c h : ℕ) (w : List ℕ) : Type 0 where
+  pub own : Owns t n c h h w
+  pub sound : (k x : ℕ) → k < 3 → held w k h x ≡ true → (x < n) × (reachOf t c k h x ≡ true)
+
+-- the nodes of a class set: each has a part, those that don't wait all that they reach
+pub record Partly (t : Table) (n c : ℕ) (ends nodes waiting : Set) (w : List ℕ) : Type 0 where
   pub rows : t .rows ≡ n
   pub few : n ≤ ROWS
   pub told : (a b : ℕ) → t .depends a b ≡ true → (inSet ends a ≡ true) × (inSet ends b ≡ true)
-  pub here : h < n
-  pub on : node t (inSet ends) c h ≡ true
   pub members : Rows n (node t (inSet ends) c) nodes
-  pub own : Has n h (λ i j. ownOf t c i h j) w
-  pub apart : (j : ℕ) → j < n → node t (inSet ends) c j ≡ true → ownOf t c 0 h j ≡ true → j ≡ h → ⊥
-  pub done : (j : ℕ) → j < n → node t (inSet ends) c j ≡ true → ownOf t c 0 h j ≡ true → Has n j (λ i x. reachOf t c i j x) w
+  pub sub : (j : ℕ) → inSet waiting j ≡ true → inSet nodes j ≡ true
+  pub part : (j : ℕ) → inSet nodes j ≡ true → Part t n c j w
+  pub done : (j : ℕ) → inSet nodes j ≡ true → inSet waiting j ≡ false → Has n j (λ i x. reachOf t c i j x) w
 
-pub record Follows (h : ℕ) (nodes : Set) (w u : List ℕ) : Type 0 where
-  pub all : (t : Table) (n c : ℕ) (ends : Set) → Ready t n c ends h nodes w → Has n h (λ i j. reachOf t c i h j) u
-  pub kept : Kept h w u
-
--- the invariant: what row h got is reached; of what it leads to at once, what is left, and what it has all of
-pub record Taking (t : Table) (n c h : ℕ) (first : Set) (w : List ℕ) (left : Set) (u : List ℕ) : Type 0 where
-  pub sound : (k x : ℕ) → k < 3 → inSet (nth u (grid k) h) x ≡ true → (x < n) × (reachOf t c k h x ≡ true)
-  pub grown : (k x : ℕ) → k < 3 → inSet (nth w (grid k) h) x ≡ true → inSet (nth u (grid k) h) x ≡ true
-  pub inside : (y : ℕ) → inSet left y ≡ true → inSet first y ≡ true
-  pub taken : (y : ℕ) → inSet first y ≡ true
-      → (inSet left y ≡ true) ⊎ ((k x : ℕ) → k < 3 → x < n → reachOf t c k y x ≡ true → inSet (nth u (grid k) h) x ≡ true)
-
-pub record Following (h : ℕ) (first : Set) (w : List ℕ) (left : Set) (u : List ℕ) : Type 0 where
-  pub all : (t : Table) (n c : ℕ) (ends nodes : Set) → Ready t n c ends h nodes w → Rows n (λ j. ownOf t c 0 h j and node t (inSet ends) c j) first → Taking t n c h first w left u
-  pub kept : Kept h w u
-
--- the nodes from row h on have what they reach
-pub record Done (t : Table) (n c : ℕ) (ends : Set) (h : ℕ) (w : List ℕ) : Type 0 where
-  pub is : (j : ℕ) → h ≤ j → j < n → node t (inSet ends) c j ≡ true → Has n j (λ i x. reachOf t c i j x) w
-
-pub record PassesNode (t : Table) (n : ℕ) (k : Concerned) (h : ℕ) (w u : List ℕ) : Type 0 where
-  pub to : (c : ℕ) (ends : Set) → Asking t n c ends k w → Down t c → Done t n c ends (h + 1) w → Done t n c ends h u
+pub record PutsAll (t : Table) (n : ℕ) (k : Concerned) (w u : List ℕ) : Type 0 where
+  pub own : (c : ℕ) (ends : Set) → Asking t n c ends k w → Partly t n c ends (k .nodes) (k .nodes) u
   pub frame : Within REACH-AT REACH-END w u
 
-pub record PassesUp (t : Table) (n : ℕ) (k : Concerned) (w u : List ℕ) : Type 0 where
-  pub to : (c : ℕ) (ends : Set) → Asking t n c ends k w → Down t c → Done t n c ends 0 u
+pub record Searches (h : ℕ) (nodes waiting : Set) (w u : List ℕ) : Type 0 where
+  pub all : (t : Table) (n c : ℕ) (ends : Set) → Partly t n c ends nodes waiting w → inSet waiting h ≡ true → Has n h (λ i x. reachOf t c i h x) u
+  pub kept : Kept h w u
+
+pub record Closes (n : ℕ) (nodes : Set) (w u : List ℕ) : Type 0 where
+  pub to : (t : Table) (c : ℕ) (ends : Set) → Partly t n c ends nodes nodes w → (j : ℕ) → j < n → node t (inSet ends) c j ≡ true → Has n j (λ i x. reachOf t c i j x) u
+  pub frame : Within REACH-AT REACH-END w u
+
+-- the i-th of n rows, from the last where `down`
+abbrev pub turnOf : ℕ → Bool → ℕ → ℕ
+turnOf n down i = cond down (n - 1 - i) i
+
+-- the invariants: of the nodes that row h reaches those that are left aren't seen, and it has what those that are seen lead to at once
+pub record Seeing (h : ℕ) (nodes waiting : Set) (w : List ℕ) (left seen : Set) (u : List ℕ) : Type 0 where
+  pub ahead : (y : ℕ) → inSet left y ≡ (held u 0 h y and inSet nodes y and not (inSet seen y))
+  pub all : (t : Table) (n c : ℕ) (ends : Set) → Partly t n c ends nodes waiting w → inSet waiting h ≡ true
+      → Part t n c h u × ((y : ℕ) → inSet seen y ≡ true → inSet nodes y ≡ true → Owns t n c y h u)
+  pub kept : Kept h w u
+
+-- and i rows have had their turn
+pub record Closing (n : ℕ) (nodes : Set) (down : Bool) (w : List ℕ) (i : ℕ) (waiting : Set) (u : List ℕ) : Type 0 where
+  pub gone : (j : ℕ) → j < n → turnOf n down j < i → inSet waiting j ≡ false
+  pub to : (t : Table) (c : ℕ) (ends : Set) → Partly t n c ends nodes nodes w → Partly t n c ends nodes waiting u
   pub frame : Within REACH-AT REACH-END w u
 
 -- ---- laws: a change elsewhere
@@ -337,260 +348,6 @@ reach-more : (t : Table) (c k h y j : ℕ) → y < t .rows → reachOf t c 0 h y
 unfolding reachOf sortAt
 reach-more t c k h y j l e f = inter-trans t c (itself h) (itself y) (sortAt t k j) (omega arith) e f
 
--- the first step of what a node reaches
-first-step : (t : Table) (c : ℕ) (ends : ℕ → Bool) → ((a b : ℕ) → t .depends a b ≡ true → (ends a ≡ true) × (ends b ≡ true)) → (k h j : ℕ) → h < t .rows → node t ends c h ≡ true
-    → reachOf t c k h j ≡ true
-    → (ownOf t c k h j ≡ true) ⊎ ((y : ℕ) × (y < t .rows) × (node t ends c y ≡ true) × (ownOf t c 0 h y ≡ true) × (reachOf t c k y j ≡ true))
-unfolding reachOf ownOf sortAt
-first-step t c ends told k h j l on e = go (node-way t c ends told h (sortAt t k j) l on e)
-  where
-    go : Way t ends c (sortAt t k j) h
-        → (step t c (itself h) (sortAt t k j) ≡ true) ⊎ ((y : ℕ) × (y < t .rows) × (node t ends c y ≡ true) × (step t c (itself h) (itself y) ≡ true) × (interThread t c (itself y) (sortAt t k j) ≡ true))
-    go (last f) = inl f
-    go (next {y = y} f o n q) = inr (y, o, n, f, way-inter t c ends told (sortAt t k j) q)
-
--- ---- laws: node by node
-
--- what row h leads to at once, of nodes
-firsts : {t : Table} {n c : ℕ} {ends : Set} {h : ℕ} {nodes : Set} {w : List ℕ} → Ready t n c ends h nodes w → (g first : Set) → g ≡ setAt w (REACH-AT + 2 * h)
-    → ((j : ℕ) → inSet first j ≡ (inSet g j and inSet nodes j)) → Rows n (λ j. ownOf t c 0 h j and node t (inSet ends) c j) first
-firsts {t} {n} {c} {ends} {h} r g first e f = rows-and (rows-at e (record { is = λ j. r .own .is 0 j (omega arith) })) (r .members) f
-
-pub follow-begin : (h : ℕ) (w : List ℕ) (first : Set) → Following h first w first w
-follow-begin h w first =
-    record {
-      all = λ t n c ends nodes r f.
-          record {
-            sound = λ k x m i. let a = split (sym (r .own .is k x m) ∙ i) in (ltb-true x n (a .0), reach-own t c k h x (a .1));
-            grown = λ k x m i. i;
-            inside = λ y i. i;
-            taken = λ y i. inl i;
-          };
-      kept = kept-none h w;
-    }
-
-pub follow-turn : {h : ℕ} {first : Set} {w u v : List ℕ} {left rest : Set} {j : ℕ} (d z : Set) → Following h first w left u → First left j → Rest left rest → Took h j u v
-    → d ≡ setAt v (REACH-AT + 2 * j) → ((i : ℕ) → inSet z i ≡ (inSet rest i and not (inSet d i))) → Following h first w z v
-follow-turn {h} {first} {w} {u} {v} {left} {rest} {j} d z inv low r took ed ez = record { all = all; kept = kept-more (inv .kept) (took .kept) }
-  where
-    all : (t : Table) (n c : ℕ) (ends nodes : Set) → Ready t n c ends h nodes w → Rows n (λ j. ownOf t c 0 h j and node t (inSet ends) c j) first → Taking t n c h first w z v
-    all t n c ends nodes ready fs =
-        record {
-          sound = λ k x m i. ⊎-elim (λ o. old .sound k x m o) (λ o. brought k x m o) (or-cases _ _ (sym (took .is k x m) ∙ i));
-          grown = λ k x m i. took .is k x m ∙ or-left _ (old .grown k x m i);
-          inside = λ y i. old .inside y (rest-in r y (split (sym (ez y) ∙ i) .0));
-          taken = λ y i. covered y i (old .taken y i);
-        }
-      where
-        old : Taking t n c h first w left u
-        old = inv .all t n c ends nodes ready fs
-
-        here : (j < n) × ((ownOf t c 0 h j and node t (inSet ends) c j) ≡ true)
-        here = member-in j fs (old .inside j (low .hit))
-
-        small : j < ROWS
-        small = low .bound
-
-        there : j < t .rows
-        there = let a = here .0 in let b = ready .rows in omega arith
-
-        owns : ownOf t c 0 h j ≡ true
-        owns = split (here .1) .0
-
-        on : node t (inSet ends) c j ≡ true
-        on = split (here .1) .1
-
-        -- row j has what it reaches, now as at first
-        got : (k x : ℕ) → k < 3 → inSet (nth u (grid k) j) x ≡ (ltb x n and reachOf t c k j x)
-        got k x m = ap (λ (s : Set). inSet s x) (inv .kept .keep k j m small (ready .apart j (here .0) on owns)) ∙ ready .done j (here .0) on owns .is k x m
-
-        after : (x : ℕ) → inSet d x ≡ (ltb x n and reachOf t c 0 j x)
-        after x = ap (λ (s : Set). inSet s x) (ed ∙ took .kept .keep 0 j (omega arith) small (ready .apart j (here .0) on owns)) ∙ got 0 x (omega arith)
-
-        brought : (k x : ℕ) → k < 3 → inSet (nth u (grid k) j) x ≡ true → (x < n) × (reachOf t c k h x ≡ true)
-        brought k x m i = let a = split (sym (got k x m) ∙ i) in (ltb-true x n (a .0), reach-more t c k h j x there (reach-own t c 0 h j owns) (a .1))
-
-        takes : (k x : ℕ) → k < 3 → x < n → reachOf t c k j x ≡ true → inSet (nth v (grid k) h) x ≡ true
-        takes k x m l e = took .is k x m ∙ or-right _ (got k x m ∙ and-true (lt-ltb x n l) e)
-
-        covered : (y : ℕ) → inSet first y ≡ true
-            → (inSet left y ≡ true) ⊎ ((k x : ℕ) → k < 3 → x < n → reachOf t c k y x ≡ true → inSet (nth u (grid k) h) x ≡ true)
-            → (inSet z y ≡ true) ⊎ ((k x : ℕ) → k < 3 → x < n → reachOf t c k y x ≡ true → inSet (nth v (grid k) h) x ≡ true)
-        covered y i (inr f) = inr (λ k x m l e. took .is k x m ∙ or-left _ (f k x m l e))
-        covered y i (inl f) = go (ℕ-discrete y j) (which (inSet d y))
-          where
-            go : Dec (y ≡ j) → (inSet d y ≡ true) ⊎ (inSet d y ≡ false)
-                → (inSet z y ≡ true) ⊎ ((k x : ℕ) → k < 3 → x < n → reachOf t c k y x ≡ true → inSet (nth v (grid k) h) x ≡ true)
-            go (yes q) o = inr (λ k x m l e. takes k x m l (ap (λ (s : ℕ). reachOf t c k s x) (sym q) ∙ e))
-            go (no q) (inl o) =
-                let a = split (sym (after y) ∙ o) in
-                let b = ltb-true y n (a .0) in
-                let p = ready .rows in
-                inr (λ k x m l e. takes k x m l (reach-more t c k j y x (omega (arith, b, p)) (a .1) e))
-            go (no q) (inr o) = inl (ez y ∙ and-true (rest-more r y f (λ s. q (s ∙ first-next low))) (not-in o))
-
-pub follow-end : {h : ℕ} {nodes first : Set} {w u : List ℕ} (left g : Set) → g ≡ setAt w (REACH-AT + 2 * h) → ((i : ℕ) → inSet first i ≡ (inSet g i and inSet nodes i))
-    → anyBelow ROWS (inSet left) ≡ false → Following h first w left u → Follows h nodes w u
-follow-end {h} {nodes} {first} {w} {u} left g eg ef e inv = record { all = all; kept = inv .kept }
-  where
-    all : (t : Table) (n c : ℕ) (ends : Set) → Ready t n c ends h nodes w → Has n h (λ i j. reachOf t c i h j) u
-    all t n c ends ready = record { is = λ k x m. bool-ext _ _ (λ i. let a = old .sound k x m i in and-true (lt-ltb x n (a .0)) (a .1)) (λ i. let a = split i in back k x m (ltb-true x n (a .0)) (a .1)) }
-      where
-        old : Taking t n c h first w left u
-        old = inv .all t n c ends nodes ready (firsts ready g first eg ef)
-
-        there : h < t .rows
-        there = let a = ready .here in let b = ready .rows in omega arith
-
-        back : (k x : ℕ) → k < 3 → x < n → reachOf t c k h x ≡ true → inSet (nth u (grid k) h) x ≡ true
-        back k x m l i = go (first-step t c (inSet ends) (ready .told) k h x there (ready .on) i)
-          where
-            go : (ownOf t c k h x ≡ true) ⊎ ((y : ℕ) × (y < t .rows) × (node t (inSet ends) c y ≡ true) × (ownOf t c 0 h y ≡ true) × (reachOf t c k y x ≡ true)) → inSet (nth u (grid k) h) x ≡ true
-            go (inl o) = old .grown k x m (ready .own .is k x m ∙ and-true (lt-ltb x n l) o)
-            go (inr o) =
-                let b = ready .rows in
-                let f = o .1 in
-                let y = firsts ready g first eg ef .is (o .0) ∙ and-true (lt-ltb (o .0) n (omega (arith, b, f))) (and-true (o .3) (o .2)) in
-                let a = ready .few in
-                ⊎-elim (λ v. not-both v (any-off (inSet left) ROWS e (o .0) (omega (arith, a, b, f)))) (λ v. v k x m l (o .4)) (old .taken (o .0) y)
-
--- the measure falls
-pub follow-less : {left rest : Set} {j : ℕ} (d z : Set) → First left j → Rest left rest → ((i : ℕ) → inSet z i ≡ (inSet rest i and not (inSet d i))) → ROWS - First.next z < ROWS - First.next left
-follow-less {left} {rest} {j} d z f r e =
-    let a = walk-less f r in
-    let b : First.next rest ≤ First.next z = go (decLt (First.next z) ROWS) in
-    omega arith
-  where
-    go : Dec (First.next z < ROWS) → First.next rest ≤ First.next z
-    go (yes l) = least-low (inSet rest) ROWS (First.next z) (split (sym (e (First.next z)) ∙ least-is (inSet z) ROWS .hit l) .0)
-    go (no l) = let c = least-is (inSet rest) ROWS .bound in omega arith
-
--- ---- laws: up the page
-
-down-apart : (t : Table) (c : ℕ) → Down t c → (h j : ℕ) → h < t .rows → j < t .rows → ownOf t c 0 h j ≡ true → h < j
-unfolding ownOf sortAt laterRow
-down-apart t c down h j l m e = go (step-at t c h l j m)
-  where
-    behind : laterRow t h j ≡ true → h < j
-    behind o = ltb-true h j (split o .0)
-
-    go : step t c (itself h) (itself j)
-        ≡ ((holder t c h and meetsFor t c h j) or (releaser t c j and takesPart t c h and laterRow t h j) or (acquirer t c h and takesPart t c j and laterRow t h j) or t .depends h j) → h < j
-    go s =
-        ⊎-elim
-        (λ a. ⊎-elim (λ b. ⊎-elim (λ d. down .sync h j l m (meets-is t c h j ∙ d)) (λ d. behind (split d .1)) (or-cases _ _ b)) (λ b. behind (split b .1)) (or-cases _ _ a))
-        (λ a. down .system h j l m a) (or-cases _ _ (sym s ∙ e))
-
-pub node-passed : {t : Table} {n : ℕ} {k : Concerned} {w v u : List ℕ} (h : ℕ) (b : Bool) → h < n → b ≡ inSet (k .nodes) h → b ≡ true → PutDirect t n k h w v → Follows h (k .nodes) v u
-    → PassesNode t n k h w u
-node-passed {t} {n} {k} {w} {v} {u} h b l eb e put f = record { to = to; frame = within-trans (put .kept .frame) (f .kept .frame) }
-  where
-    to : (c : ℕ) (ends : Set) → Asking t n c ends k w → Down t c → Done t n c ends (h + 1) w → Done t n c ends h u
-    to c ends q down done = record { is = λ j a m o. go j a m o (ℕ-discrete j h) }
-      where
-        here : h < t .rows
-        here = let r = q .rows in omega arith
-
-        later : (j : ℕ) → j < n → ownOf t c 0 h j ≡ true → h < j
-        later j m o = let r = q .rows in down-apart t c down h j here (omega arith) o
-
-        small : (j : ℕ) → j < n → j < ROWS
-        small j m = let r = q .few in omega arith
-
-        ready : Ready t n c ends h (k .nodes) v
-        ready =
-            record {
-              rows = q .rows;
-              few = q .few;
-              told = q .told .told;
-              here = l;
-              on = sym (rows-in (q .concerns .nodes) h l) ∙ sym eb ∙ e;
-              members = q .concerns .nodes;
-              own = put .own c ends q;
-              apart = λ j m o i d. let r = later j m i in omega arith;
-              done = λ j m o i.
-                  let r = later j m i in
-                  has-kept (small j m) (λ d. omega arith) (put .kept) (done .is j (omega arith) m o);
-            }
-
-        go : (j : ℕ) → h ≤ j → j < n → node t (inSet ends) c j ≡ true → Dec (j ≡ h) → Has n j (λ i x. reachOf t c i j x) u
-        go j a m o (yes d) = subst (λ (z : ℕ). Has n z (λ i x. reachOf t c i z x) u) (sym d) (f .all t n c ends ready)
-        go j a m o (no d) = has-kept (small j m) d (f .kept) (has-kept (small j m) d (put .kept) (done .is j (omega (arith, d)) m o))
-
-pub node-skipped : {t : Table} {n : ℕ} {k : Concerned} {w : List ℕ} (h : ℕ) (b : Bool) → h < n → b ≡ inSet (k .nodes) h → b ≡ false → PassesNode t n k h w w
-node-skipped {t} {n} {k} {w} h b l eb e =
-    record { to = λ c ends q down done. record { is = λ j a m o. go c ends q done j a m o (ℕ-discrete j h) }; frame = within-refl REACH-AT REACH-END w }
-  where
-    go : (c : ℕ) (ends : Set) → Asking t n c ends k w → Done t n c ends (h + 1) w → (j : ℕ) → h ≤ j → j < n → node t (inSet ends) c j ≡ true → Dec (j ≡ h) → Has n j (λ i x. reachOf t c i j x) w
-    go c ends q done j a m o (yes d) = not-both (subst (λ (z : ℕ). node t (inSet ends) c z ≡ true) d o) (sym (rows-in (q .concerns .nodes) h l) ∙ sym eb ∙ e)
-    go c ends q done j a m o (no d) = done .is j (omega (arith, d)) m o
-
--- the invariant
-pub record Passing (t : Table) (n : ℕ) (k : Concerned) (w : List ℕ) (h : ℕ) (u : List ℕ) : Type 0 where
-  pub to : (c : ℕ) (ends : Set) → Asking t n c ends k w → Down t c → Done t n c ends h u
-  pub frame : Within REACH-AT REACH-END w u
-
-pub up-begin : (t : Table) (n : ℕ) (k : Concerned) (w : List ℕ) → Passing t n k w n w
-up-begin t n k w = record { to = λ c ends q down. record { is = λ j a m o. absurd (omega arith) }; frame = within-refl REACH-AT REACH-END w }
-
-pub up-turn : {t : Table} {n : ℕ} {k : Concerned} {w u v : List ℕ} (h i : ℕ) → h ≡ i + 1 → Passing t n k w h u → PassesNode t n k i u v → Passing t n k w i v
-up-turn {t} {n} {k} {w} {u} {v} h i e p q =
-    record {
-      to = λ c ends a down. q .to c ends (asking-kept (p .frame) a) down (subst (λ (z : ℕ). Done t n c ends z u) e (p .to c ends a down));
-      frame = within-trans (p .frame) (q .frame);
-    }
-
-pub up-end : {t : Table} {n : ℕ} {k : Concerned} {w u : List ℕ} (h : ℕ) → h ≡ 0 → Passing t n k w h u → PassesUp t n k w u
-up-end {t} {n} {k} {w} {u} h e p = record { to = λ c ends a down. subst (λ (z : ℕ). Done t n c ends z u) e (p .to c ends a down); frame = p .frame }
-
--- ---- wherever direct cases lead: definitions
-
--- x is in row h's set of sort k
-abbrev pub held : List ℕ → ℕ → ℕ → ℕ → Bool
-held w k h x = inSet (nth w (grid k) h) x
-
--- row h has what row y leads to at once
-pub record Owns (t : Table) (n c y h : ℕ) (w : List ℕ) : Type 0 where
-  pub is : (k x : ℕ) → k < 3 → x < n → ownOf t c k y x ≡ true → held w k h x ≡ true
-
--- row h has what it leads to at once, and nothing that it doesn't reach
-pub record Part (t : Table) (n c h : ℕ) (w : List ℕ) : Type 0 where
-  pub own : Owns t n c h h w
-  pub sound : (k x : ℕ) → k < 3 → held w k h x ≡ true → (x < n) × (reachOf t c k h x ≡ true)
-
--- the nodes of a class set: each has a part, those that don't wait all that they reach
-pub record Partly (t : Table) (n c : ℕ) (ends nodes waiting : Set) (w : List ℕ) : Type 0 where
-  pub rows : t .rows ≡ n
-  pub few : n ≤ ROWS
-  pub told : (a b : ℕ) → t .depends a b ≡ true → (inSet ends a ≡ true) × (inSet ends b ≡ true)
-  pub members : Rows n (node t (inSet ends) c) nodes
-  pub part : (j : ℕ) → inSet nodes j ≡ true → Part t n c j w
-  pub done : (j : ℕ) → inSet nodes j ≡ true → inSet waiting j ≡ false → Has n j (λ i x. reachOf t c i j x) w
-
-pub record PutsAll (t : Table) (n : ℕ) (k : Concerned) (w u : List ℕ) : Type 0 where
-  pub own : (c : ℕ) (ends : Set) → Asking t n c ends k w → Partly t n c ends (k .nodes) (k .nodes) u
-  pub frame : Within REACH-AT REACH-END w u
-
-pub record Searches (h : ℕ) (nodes waiting : Set) (w u : List ℕ) : Type 0 where
-  pub all : (t : Table) (n c : ℕ) (ends : Set) → Partly t n c ends nodes waiting w → inSet nodes h ≡ true → inSet waiting h ≡ true → Has n h (λ i x. reachOf t c i h x) u
-  pub kept : Kept h w u
-
-pub record Closes (nodes : Set) (w u : List ℕ) : Type 0 where
-  pub to : (t : Table) (n c : ℕ) (ends : Set) → Partly t n c ends nodes nodes w → (j : ℕ) → j < n → node t (inSet ends) c j ≡ true → Has n j (λ i x. reachOf t c i j x) u
-  pub frame : Within REACH-AT REACH-END w u
-
--- the invariants: of the nodes that row h reaches those that are left aren't seen, and it has what those that are seen lead to at once
-pub record Seeing (h : ℕ) (nodes waiting : Set) (w : List ℕ) (left seen : Set) (u : List ℕ) : Type 0 where
-  pub ahead : (y : ℕ) → inSet left y ≡ (held u 0 h y and inSet nodes y and not (inSet seen y))
-  pub all : (t : Table) (n c : ℕ) (ends : Set) → Partly t n c ends nodes waiting w → inSet nodes h ≡ true → inSet waiting h ≡ true
-      → Part t n c h u × ((y : ℕ) → inSet seen y ≡ true → inSet nodes y ≡ true → Owns t n c y h u)
-  pub kept : Kept h w u
-
-pub record Closing (nodes : Set) (w : List ℕ) (left : Set) (u : List ℕ) : Type 0 where
-  pub sub : (j : ℕ) → inSet left j ≡ true → inSet nodes j ≡ true
-  pub to : (t : Table) (n c : ℕ) (ends : Set) → Partly t n c ends nodes nodes w → Partly t n c ends nodes left u
-  pub frame : Within REACH-AT REACH-END w u
-
 -- ---- laws: a part
 
 part-own : {t : Table} {n c j : ℕ} {w : List ℕ} → Has n j (λ i x. ownOf t c i j x) w → Part t n c j w
@@ -651,6 +408,7 @@ put-end {t} {n} {k} {w} {u} left e p f =
             few = q .few;
             told = q .told .told;
             members = q .concerns .nodes;
+            sub = λ j o. o;
             part = λ j o. let a = member-in j (q .concerns .nodes) o in let l = q .few in part-own (all .own c ends q j (omega (arith, a .0, l)) (a .0) (a .1));
             done = λ j o d. not-both o d;
           };
@@ -669,7 +427,7 @@ module _ {t : Table} {n c : ℕ} {ends nodes waiting : Set} {w : List ℕ} (p : 
   small : (j : ℕ) → inSet nodes j ≡ true → j < ROWS
   small j e = let a = member-in j (p .members) e .0 in let b = p .few in omega arith
 
-module _ {t : Table} {n c : ℕ} {ends nodes waiting : Set} {w : List ℕ} (p : Partly t n c ends nodes waiting w) (h : ℕ) (on : inSet nodes h ≡ true) (waits : inSet waiting h ≡ true) where
+module _ {t : Table} {n c : ℕ} {ends nodes waiting : Set} {w : List ℕ} (p : Partly t n c ends nodes waiting w) (h : ℕ) (waits : inSet waiting h ≡ true) where
   part-now : {u : List ℕ} → Kept h w u → Part t n c h u → (j : ℕ) → inSet nodes j ≡ true → Part t n c j u
   part-now {u} k q j e = go (ℕ-discrete j h)
     where
@@ -722,7 +480,7 @@ module _ {t : Table} {n c : ℕ} {ends nodes waiting : Set} {w : List ℕ} (p : 
       record { is = λ k x m. bool-ext _ _ (λ i. let a = q .sound k x m i in and-true (lt-ltb x n (a .0)) (a .1)) (λ i. let a = split i in back k x m (ltb-true x n (a .0)) (a .1)) }
     where
       back : (k x : ℕ) → k < 3 → x < n → reachOf t c k h x ≡ true → held u k h x ≡ true
-      back k x m l f = go h (q .own) (node-way t c (inSet ends) (p .told) h (sortAt t k x) (inside p h on) (member-in h (p .members) on .1) f)
+      back k x m l f = go h (q .own) (node-way t c (inSet ends) (p .told) h (sortAt t k x) (inside p h (p .sub h waits)) (member-in h (p .members) (p .sub h waits) .1) f)
         where
           go : (y : ℕ) → Owns t n c y h u → Way t (inSet ends) c (sortAt t k x) y → held u k h x ≡ true
           go y o (last g) = o .is k x m l g
@@ -740,7 +498,7 @@ module _ {t : Table} {n c : ℕ} {ends nodes waiting : Set} {w : List ℕ} (p : 
 
 pub see-begin : (h : ℕ) (nodes waiting : Set) (w : List ℕ) (left seen : Set) → ((y : ℕ) → inSet seen y ≡ false) → ((y : ℕ) → inSet left y ≡ (held w 0 h y and inSet nodes y and not (inSet seen y)))
     → Seeing h nodes waiting w left seen w
-see-begin h nodes waiting w left seen e el = record { ahead = el; all = λ t n c ends p o b. (p .part h o, λ y f g. not-both f (e y)); kept = kept-none h w }
+see-begin h nodes waiting w left seen e el = record { ahead = el; all = λ t n c ends p o. (p .part h (p .sub h o), λ y f g. not-both f (e y)); kept = kept-none h w }
 
 pub see-turn : {h : ℕ} {nodes waiting : Set} {w u v : List ℕ} {left seen : Set} {j : ℕ} (b rest more : Set) → Seeing h nodes waiting w left seen u → First left j → Took h j u v
     → ((y : ℕ) → inSet b y ≡ (eqb y j or (not (inSet waiting j) and held v 0 j y))) → ((y : ℕ) → inSet rest y ≡ (inSet seen y or inSet b y))
@@ -748,15 +506,15 @@ pub see-turn : {h : ℕ} {nodes waiting : Set} {w u v : List ℕ} {left seen : S
 see-turn {left = left} {seen} {j} b rest more inv low took eb er en =
     record {
       ahead = en;
-      all = λ t n c ends p o i. let q = inv .all t n c ends p o i in let a = split (split (sym (inv .ahead j) ∙ low .hit) .0) in turned p _ o i seen rest b (inv .kept) (q .0) (q .1) (a .1) (a .0) took eb er;
+      all = λ t n c ends p o. let q = inv .all t n c ends p o in let a = split (split (sym (inv .ahead j) ∙ low .hit) .0) in turned p _ o seen rest b (inv .kept) (q .0) (q .1) (a .1) (a .0) took eb er;
       kept = kept-more (inv .kept) (took .kept);
     }
 
 pub see-end : {h : ℕ} {nodes waiting : Set} {w u : List ℕ} (left seen : Set) → anyBelow ROWS (inSet left) ≡ false → Seeing h nodes waiting w left seen u → Searches h nodes waiting w u
 see-end left seen e inv =
-    record { all = λ t n c ends p o i. let q = inv .all t n c ends p o i in ended p _ o i left seen (q .0) (q .1) (inv .ahead) e; kept = inv .kept }
+    record { all = λ t n c ends p o. let q = inv .all t n c ends p o in ended p _ o left seen (q .0) (q .1) (inv .ahead) e; kept = inv .kept }
 
--- ---- laws: the measures fall
+-- ---- laws: the measure falls
 
 one-under : (a b : Bool) → (a ≡ true → b ≡ true) → one a ≤ one b
 unfolding one
@@ -796,47 +554,69 @@ see-less {left = left} {seen} {j} v b rest inv low eb er =
     (ap not (er j ∙ or-right _ (eb j ∙ or-left _ (eq-eqb j j refl))))
     (λ k e. not-in (or-false (inSet seen k) (inSet b k) (sym (er k) ∙ not-out (inSet rest k) e) .0))
 
-pub close-less : (left rest : Set) (h : ℕ) → h < ROWS → inSet left h ≡ true → ((j : ℕ) → inSet rest j ≡ (inSet left j and not (eqb j h)))
-    → countBelow ROWS (inSet rest) < countBelow ROWS (inSet left)
-close-less left rest h l e er =
-    count-falls (inSet left) (inSet rest) ROWS h l e (er h ∙ and-false-right _ _ (ap not (eq-eqb h h refl))) (λ k f. split (sym (er k) ∙ f) .0)
+-- ---- laws: turn by turn
 
--- ---- laws: node by node
+pub turn-low : (n i : ℕ) (down : Bool) → i < n → turnOf n down i < n
+turn-low n i true l = omega arith
+turn-low n i false l = l
 
-pub close-begin : (nodes : Set) (w : List ℕ) → Closing nodes w nodes w
-close-begin nodes w = record { sub = λ j e. e; to = λ t n c ends p. p; frame = within-refl REACH-AT REACH-END w }
+-- the row whose turn is row j's
+turn-back : (n i j : ℕ) (down : Bool) → i < n → j < n → turnOf n down j ≡ i → j ≡ turnOf n down i
+turn-back n i j true l m e = omega arith
+turn-back n i j false l m e = e
 
-pub close-turn : {nodes : Set} {w u v : List ℕ} {left : Set} {h : ℕ} (rest : Set) → Closing nodes w left u → inSet left h ≡ true → Searches h nodes left u v
-    → ((j : ℕ) → inSet rest j ≡ (inSet left j and not (eqb j h))) → Closing nodes w rest v
-close-turn {nodes} {w} {u} {v} {left} {h} rest inv e s er =
-    record { sub = λ j f. inv .sub j (split (sym (er j) ∙ f) .0); to = λ t n c ends p. to t n c ends (inv .to t n c ends p); frame = within-trans (inv .frame) (s .kept .frame) }
+pub close-begin : (n : ℕ) (nodes : Set) (down : Bool) (w : List ℕ) → Closing n nodes down w 0 nodes w
+close-begin n nodes down w = record { gone = λ j l o. absurd (omega arith); to = λ t c ends p. p; frame = within-refl REACH-AT REACH-END w }
+
+-- what had its turn before row h's
+earlier : (n i h j : ℕ) (down : Bool) → i < n → h ≡ turnOf n down i → j < n → turnOf n down j < i + 1 → (j ≡ h → ⊥) → turnOf n down j < i
+earlier n i h j down l e m o d = let f : (turnOf n down j ≡ i → ⊥) = λ g. d (turn-back n i j down l m g ∙ sym e) in omega (arith, o, f)
+
+pub close-skip : {n : ℕ} {nodes : Set} {down : Bool} {w u : List ℕ} {i : ℕ} {waiting : Set} (h : ℕ) (b : Bool) → i < n → h ≡ turnOf n down i → b ≡ inSet waiting h → b ≡ false
+    → Closing n nodes down w i waiting u → Closing n nodes down w (i + 1) waiting u
+close-skip {n} {nodes} {down} {w} {u} {i} {waiting} h b l e eb f inv = record { gone = λ j m o. go j m o (ℕ-discrete j h); to = inv .to; frame = inv .frame }
   where
-    to : (t : Table) (n c : ℕ) (ends : Set) → Partly t n c ends nodes left u → Partly t n c ends nodes rest v
-    to t n c ends p =
-        record { rows = p .rows; few = p .few; told = p .told; members = p .members; part = λ j o. part j o (ℕ-discrete j h); done = λ j o f. done j o f (ℕ-discrete j h) }
-      where
-        on : inSet nodes h ≡ true
-        on = inv .sub h e
+    go : (j : ℕ) → j < n → turnOf n down j < i + 1 → Dec (j ≡ h) → inSet waiting j ≡ false
+    go j m o (yes d) = ap (inSet waiting) d ∙ sym eb ∙ f
+    go j m o (no d) = inv .gone j m (earlier n i h j down l e m o d)
 
-        all : Has n h (λ i x. reachOf t c i h x) v
-        all = s .all t n c ends p on e
+pub close-turn : {n : ℕ} {nodes : Set} {down : Bool} {w u v : List ℕ} {i : ℕ} {waiting : Set} (h : ℕ) (b : Bool) (rest : Set) → i < n → h ≡ turnOf n down i → b ≡ inSet waiting h → b ≡ true
+    → Closing n nodes down w i waiting u → Searches h nodes waiting u v → ((j : ℕ) → inSet rest j ≡ (inSet waiting j and not (eqb j h))) → Closing n nodes down w (i + 1) rest v
+close-turn {n} {nodes} {down} {w} {u} {v} {i} {waiting} h b rest l e eb f inv s er =
+    record { gone = λ j m o. go j m o (ℕ-discrete j h); to = λ t c ends p. to t c ends (inv .to t c ends p); frame = within-trans (inv .frame) (s .kept .frame) }
+  where
+    go : (j : ℕ) → j < n → turnOf n down j < i + 1 → Dec (j ≡ h) → inSet rest j ≡ false
+    go j m o (yes d) = er j ∙ and-false-right _ _ (ap not (eq-eqb j h d))
+    go j m o (no d) = er j ∙ and-false-left _ _ (inv .gone j m (earlier n i h j down l e m o d))
+
+    to : (t : Table) (c : ℕ) (ends : Set) → Partly t n c ends nodes waiting u → Partly t n c ends nodes rest v
+    to t c ends p =
+        record {
+          rows = p .rows;
+          few = p .few;
+          told = p .told;
+          members = p .members;
+          sub = λ j o. p .sub j (split (sym (er j) ∙ o) .0);
+          part = λ j o. part j o (ℕ-discrete j h);
+          done = λ j o r. done j o r (ℕ-discrete j h);
+        }
+      where
+        all : Has n h (λ k x. reachOf t c k h x) v
+        all = s .all t n c ends p (sym eb ∙ f)
 
         part : (j : ℕ) → inSet nodes j ≡ true → Dec (j ≡ h) → Part t n c j v
         part j o (yes d) = subst (λ (z : ℕ). Part t n c z v) (sym d) (part-all all)
         part j o (no d) = part-kept (small p j o) d (s .kept) (p .part j o)
 
-        done : (j : ℕ) → inSet nodes j ≡ true → inSet rest j ≡ false → Dec (j ≡ h) → Has n j (λ i x. reachOf t c i j x) v
-        done j o f (yes d) = subst (λ (z : ℕ). Has n z (λ i x. reachOf t c i z x) v) (sym d) all
-        done j o f (no d) =
-            has-kept (small p j o) d (s .kept) (p .done j o (not-so (inSet left j) (λ g. not-both (er j ∙ and-true g (not-in (ne-eqb j h d))) f)))
+        done : (j : ℕ) → inSet nodes j ≡ true → inSet rest j ≡ false → Dec (j ≡ h) → Has n j (λ k x. reachOf t c k j x) v
+        done j o r (yes d) = subst (λ (z : ℕ). Has n z (λ k x. reachOf t c k z x) v) (sym d) all
+        done j o r (no d) =
+            has-kept (small p j o) d (s .kept) (p .done j o (not-so (inSet waiting j) (λ g. not-both (er j ∙ and-true g (not-in (ne-eqb j h d))) r)))
 
-pub close-end : {nodes : Set} {w u : List ℕ} (left : Set) → anyBelow ROWS (inSet left) ≡ false → Closing nodes w left u → Closes nodes w u
-close-end left e inv =
+pub close-end : {n : ℕ} {nodes : Set} {down : Bool} {w u : List ℕ} (i : ℕ) (waiting : Set) → n ≤ i → Closing n nodes down w i waiting u → Closes n nodes w u
+close-end {n} {down = down} i waiting l inv =
     record {
-      to = λ t n c ends p j l o.
-          let q = inv .to t n c ends p in
-          let a = q .few in
-          q .done j (rows-in (q .members) j l ∙ o) (any-off (inSet left) ROWS e j (omega arith));
+      to = λ t c ends p j m o. let q = inv .to t c ends p in q .done j (rows-in (q .members) j m ∙ o) (inv .gone j m (let a = turn-low n j down m in omega arith));
       frame = inv .frame;
     }
 
@@ -856,11 +636,9 @@ reach-made h f =
       frame = f;
     }
 
-pub made-down : {t : Table} {n c : ℕ} {ends : Set} {k : Concerned} {down : Bool} {s w u : List ℕ} → Asks t n c ends k down s w → down ≡ true → PassesUp t n k w u → MadeReach t n c ends w u
-made-down {c = c} {ends = ends} a e p = reach-made (λ j l o. p .to c ends (asking-of a) (a .leads e) .is j (omega arith) l o) (p .frame)
-
-pub made-around : {t : Table} {n c : ℕ} {ends : Set} {k : Concerned} {down : Bool} {s w v u : List ℕ} → Asks t n c ends k down s w → PutsAll t n k w v → Closes (k .nodes) v u → MadeReach t n c ends w u
-made-around {t} {n} {c} {ends} a p q = reach-made (q .to t n c ends (p .own c ends (asking-of a))) (within-trans (p .frame) (q .frame))
+pub made-reach : {t : Table} {n c : ℕ} {ends : Set} {k : Concerned} {down : Bool} {s w v u : List ℕ} → Asks t n c ends k down s w → PutsAll t n k w v → Closes n (k .nodes) v u
+    → MadeReach t n c ends w u
+made-reach {t} {n} {c} {ends} a p q = reach-made (q .to t c ends (p .own c ends (asking-of a))) (within-trans (p .frame) (q .frame))
 
 pub nodes-low : {t : Table} {n c : ℕ} {ends : Set} {k : Concerned} {down : Bool} {s w : List ℕ} → Asks t n c ends k down s w → (j : ℕ) → inSet (k .nodes) j ≡ true → j < n
 nodes-low a j e = member-in j (a .concerns .nodes) e .0

@@ -12,7 +12,7 @@ ghost use Rattle.sets_of_rows.specs.Member.{inSet};
 ghost use Rattle.sets_of_rows.specs.Rows.{Rows};
 ghost use Rattle.sets_grids.specs.Given.{Given};
 ghost use Rattle.sets_grids.specs.Reach.{Asks, MadeReach};
-ghost use Rattle.sets_closure.specs.Reaching.{Asking, ownOf, PutDirect, Took, Follows, PassesNode, PassesUp, PutsAll, held, Searches, Closes};
+ghost use Rattle.sets_closure.specs.Reaching.{Asking, ownOf, held, PutDirect, Took, PutsAll, Searches, Closes, turnOf};
 use run::Run;
 use sets_grids::Concerned;
 use sets_of_rows::Set;
@@ -72,44 +72,6 @@ fn take_in(h: usize, j: usize, w: &mut [u64])
     kept::join(w, sets_grids::REACH_AVAILABLE, h, available);
 }
 
-// Node h takes in what the nodes that it leads to reach; those that one of them reaches bring nothing more.
-fn follow(h: usize, nodes: Set, w: &mut [u64])
-    requires { ⌜ (h < ROWS) × (WORK ≤ length (now w)) ⌝ }
-    ensures { λ _. ⌜ Follows h nodes (now (w .entry)) (now (w .exit)) ⌝ }
-{
-    let mut left = sets_of_rows::and(kept::get(w, sets_grids::REACH_AT, h), nodes);
-    while sets_of_rows::some(left) {
-        let j = sets_of_rows::first(left);
-        let rest = sets_of_rows::but_first(left);
-        take_in(h, j, w);
-        left = sets_of_rows::less(rest, kept::get(w, sets_grids::REACH_AT, j));
-    }
-}
-
-// Row h, where what each node after it reaches is done.
-fn pass_node(t: &Run, n: usize, s: &[u64], k: Concerned, h: usize, w: &mut [u64])
-    requires { ⌜ (h < n) × Given (tableIn (now t) n) n (now s) (now w) ⌝ }
-    ensures { λ _. ⌜ PassesNode (tableIn (now (t .entry)) n) n k h (now (w .entry)) (now (w .exit)) ⌝ }
-{
-    if !sets_of_rows::has(k.nodes, h) {
-        return;
-    }
-    put_direct(t, n, s, k, h, w);
-    follow(h, k.nodes, w);
-}
-
-// Where every direct case leads down the page: up the page, so that what a node leads to is done before it.
-fn pass_up(t: &Run, n: usize, s: &[u64], k: Concerned, w: &mut [u64])
-    requires { ⌜ Given (tableIn (now t) n) n (now s) (now w) ⌝ }
-    ensures { λ _. ⌜ PassesUp (tableIn (now (t .entry)) n) n k (now (w .entry)) (now (w .exit)) ⌝ }
-{
-    let mut h = n;
-    while 0 < h {
-        h -= 1;
-        pass_node(t, n, s, k, h, w);
-    }
-}
-
 // Direct cases from every node.
 fn put_all_direct(t: &Run, n: usize, s: &[u64], k: Concerned, w: &mut [u64])
     requires { ⌜ ((j : ℕ) → inSet (k .nodes) j ≡ true → j < n) × Given (tableIn (now t) n) n (now s) (now w) ⌝ }
@@ -163,16 +125,28 @@ fn search(h: usize, nodes: Set, waiting: Set, w: &mut [u64])
     }
 }
 
-// Wherever they lead: a search from each node.
-fn close(nodes: Set, w: &mut [u64])
-    requires { ⌜ WORK ≤ length (now w) ⌝ }
-    ensures { λ _. ⌜ Closes nodes (now (w .entry)) (now (w .exit)) ⌝ }
+// The row whose turn is the i-th of n.
+fn turn(n: usize, down: bool, i: usize) -> usize
+    requires { ⌜ i < n ⌝ }
+    ensures { λ h. ⌜ (h ≡ turnOf n down i) × (h < n) ⌝ }
 {
-    let mut left = nodes;
-    while sets_of_rows::some(left) {
-        let h = sets_of_rows::first(left);
-        search(h, nodes, left, w);
-        left = sets_of_rows::drop(left, h);
+    if down { n - 1 - i } else { i }
+}
+
+// A search from each node. Where every direct case leads down the page, up the page, so that what a node leads to is done before it; that
+// saves time, and any order is right.
+fn close(n: usize, nodes: Set, down: bool, w: &mut [u64])
+    requires { ⌜ (n ≤ ROWS) × (WORK ≤ length (now w)) ⌝ }
+    ensures { λ _. ⌜ Closes n nodes (now (w .entry)) (now (w .exit)) ⌝ }
+{
+    let mut waiting = nodes;
+    for i in 0..n {
+        let h = turn(n, down, i);
+        if !sets_of_rows::has(waiting, h) {
+            continue;
+        }
+        search(h, nodes, waiting, w);
+        waiting = sets_of_rows::drop(waiting, h);
     }
 }
 
@@ -191,10 +165,6 @@ pub fn fill_reach(
     requires { ⌜ Asks (tableIn (now t) n) n c ends k down (now s) (now w) ⌝ }
     ensures { λ _. ⌜ MadeReach (tableIn (now (t .entry)) n) n c ends (now (w .entry)) (now (w .exit)) ⌝ }
 {
-    if down {
-        pass_up(t, n, s, k, w);
-        return;
-    }
     put_all_direct(t, n, s, k, w);
-    close(k.nodes, w);
+    close(n, k.nodes, down, w);
 }

@@ -4,7 +4,5 @@ pub mod Nodes
 pub mod Up
 pub mod Direct
 pub mod Sets
-pub mod Warshall
 pub mod Asked
 pub mod Page
-pub mod Phase

@@ -3,6 +3,7 @@
 
 use pages::{Evaluator, Program};
 use readings::{crates, with_room};
+use std::slice::from_ref;
 
 /// The lists of runs, and how many each has. The shares of `reports` are
 /// written as the prover writes numbers with a point, and the prover computes
@@ -36,7 +37,7 @@ fn differing(pages: &mut Evaluator, list: &str) -> (usize, Vec<String>) {
         };
         let arguments = [ask.clone(), table.clone()];
         let answer = pages.told("model_runs/Runs.answer", &arguments).unwrap();
-        let wanted = pages.told("runs/Own.itself", &[gives.clone()]).unwrap();
+        let wanted = pages.told("runs/Own.itself", from_ref(gives)).unwrap();
         if answer != wanted {
             differing.push(format!("{list} {place}: {answer}, not {wanted}"));
         }

@@ -18,13 +18,16 @@ use Rattle.model.specs.Moment.{AT, part, itself, availability, visibility, clas
 use Rattle.model.specs.Availability.{availabilityMoment, visibilityMoment}
 use Rattle.model.specs.Happens.{concerns, interThread}
 use Rattle.model_closing.specs.Tests.{or-off-left, and-under, and-assoc}
-use Rattle.model_closing.specs.Order.{laterRow, fromRow, available-off, visible-off, order-available-at, order-visible-at}
+use Rattle.model_closing.specs.Order.{own-row, laterRow, fromRow, available-off, visible-off, order-available-at, order-visible-at}
 use Rattle.model_closing.specs.Nodes.{releaser, node, nodeMoment, passesBehind, firstBehind, firstRelease, fromSource, inter-source}
-use Rattle.model_closing.specs.Up.{leads, off-moment}
 use Rattle.model_closing.specs.Direct.{takesPart, availableFor, visibleFor, holder-is, concerns-at, concerns-available, concerns-visible}
 use Rattle.model_closing.specs.Sets.{reachedAt, reachedAvailable, reachedVisible, passesLater, nextRelease, ofNext, next-release}
 
 -- ---- definitions
+
+-- what a row leads to: from its own moment to any moment
+abbrev pub leads : Table → ℕ → ℕ → ℕ → Bool
+leads t s x m = interThread t s (itself x) m
 
 -- y is row r, where there is one, or r has got it
 unfoldable pub nextOrOf : Table → (ℕ → ℕ → Bool) → ℕ → ℕ → Bool
@@ -66,6 +69,12 @@ askedAvailables t s a c = fromAvailable t s (reachedAvailable t s) a c
 
 unfoldable pub askedVisibles : Table → ℕ → ℕ → ℕ → Bool
 askedVisibles t s w v = fromVisible t s (reachedVisible t s) w v
+
+-- ---- laws: a class set
+
+off-moment : (t : Table) (s : ℕ) (ends : ℕ → Bool) (h : ℕ) → node t ends s h ≡ false → nodeMoment t ends s (itself h) ≡ false
+unfolding nodeMoment
+off-moment t s ends h e = and-false-right _ _ (rw (own-row h) e)
 
 -- ---- laws: places of moments
 
@@ -176,7 +185,7 @@ module _ (t : Table) (s : ℕ) where
             → interThread t s (itself x) (itself y)
             ≡ cond (node t ends s x) (interThread t s (itself x) (itself y)) (takesPart t s x and nextOrOf t (reachedAt t s) (nextRelease t s x) y)
         go (inl e) = rw e refl
-        go (inr e) = rw e (other (off-moment t s ends told x e))
+        go (inr e) = rw e (other (off-moment t s ends x e))
           where
             other : nodeMoment t ends s (itself x) ≡ false
                 → interThread t s (itself x) (itself y) ≡ (takesPart t s x and nextOrOf t (reachedAt t s) (nextRelease t s x) y)

@@ -1,7 +1,6 @@
 pub mod Tests
 pub mod Order
 pub mod Nodes
-pub mod Up
 pub mod Direct
 pub mod Sets
 pub mod Asked

@@ -1,6 +1,5 @@
 -- The sets of rows that an engine keeps for each node of a class set, in a table without dependencies: the rows it leads to, the rows
--- whose availability moments, whose visibility moments. By one pass up the page, where synchronizes-with leads down it. For any number
--- of rows. Assumes nothing.
+-- whose availability moments, whose visibility moments. For any number of rows. Assumes nothing.
 use mathlib.Core.Path.{_≡_, ap}
 use mathlib.Core.Bool.{Bool}
 use Prim.Native.Nat.{ℕ, _<_}

@@ -1,1 +1,1 @@
-// Inter-thread order for a class set as sets of rows, one pass up the page or Warshall over few rows: specs only.
+// Inter-thread order for a class set as sets of rows, by way of the few rows that are its nodes: specs only.

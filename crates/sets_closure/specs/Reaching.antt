@@ -622,7 +622,7 @@ close-end {n} {down = down} i waiting l inv =
 
 -- ---- laws: what is made
 
-asking-of : {t : Table} {n c : ℕ} {ends : Set} {k : Concerned} {down : Bool} {s w : List ℕ} → Asks t n c ends k down s w → Asking t n c ends k w
+asking-of : {t : Table} {n c : ℕ} {ends : Set} {k : Concerned} {s w : List ℕ} → Asks t n c ends k s w → Asking t n c ends k w
 asking-of a = record { rows = a .given .opened .rows; few = given-few (a .given); told = a .told; concerns = a .concerns; syncs = a .syncs; depends = a .depends }
 
 reach-made : {t : Table} {n c : ℕ} {ends : Set} {w u : List ℕ} → ((j : ℕ) → j < n → node t (inSet ends) c j ≡ true → Has n j (λ i x. reachOf t c i j x) u) → Within REACH-AT REACH-END w u
@@ -636,9 +636,9 @@ reach-made h f =
       frame = f;
     }
 
-pub made-reach : {t : Table} {n c : ℕ} {ends : Set} {k : Concerned} {down : Bool} {s w v u : List ℕ} → Asks t n c ends k down s w → PutsAll t n k w v → Closes n (k .nodes) v u
+pub made-reach : {t : Table} {n c : ℕ} {ends : Set} {k : Concerned} {s w v u : List ℕ} → Asks t n c ends k s w → PutsAll t n k w v → Closes n (k .nodes) v u
     → MadeReach t n c ends w u
 made-reach {t} {n} {c} {ends} a p q = reach-made (q .to t c ends (p .own c ends (asking-of a))) (within-trans (p .frame) (q .frame))
 
-pub nodes-low : {t : Table} {n c : ℕ} {ends : Set} {k : Concerned} {down : Bool} {s w : List ℕ} → Asks t n c ends k down s w → (j : ℕ) → inSet (k .nodes) j ≡ true → j < n
+pub nodes-low : {t : Table} {n c : ℕ} {ends : Set} {k : Concerned} {s w : List ℕ} → Asks t n c ends k s w → (j : ℕ) → inSet (k .nodes) j ≡ true → j < n
 nodes-low a j e = member-in j (a .concerns .nodes) e .0

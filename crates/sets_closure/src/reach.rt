@@ -162,7 +162,7 @@ pub fn fill_reach(
     down: bool,
     w: &mut [u64],
 )
-    requires { ⌜ Asks (tableIn (now t) n) n c ends k down (now s) (now w) ⌝ }
+    requires { ⌜ Asks (tableIn (now t) n) n c ends k (now s) (now w) ⌝ }
     ensures { λ _. ⌜ MadeReach (tableIn (now (t .entry)) n) n c ends (now (w .entry)) (now (w .exit)) ⌝ }
 {
     put_all_direct(t, n, s, k, w);

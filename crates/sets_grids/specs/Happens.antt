@@ -1,6 +1,5 @@
 -- Happens-before as five relations between rows, each a grid; and what it is made from. Assumes nothing.
-use mathlib.Core.Path.{_≡_}
-use mathlib.Core.Bool.{Bool, true}
+use mathlib.Core.Bool.{Bool}
 use mathlib.Core.List.{List}
 use Prim.Native.Nat.{ℕ, suc}
 use Rattle.finite.specs.Logic.{_and_, _or_}
@@ -12,7 +11,6 @@ use Rattle.model.specs.Happens.{interThread, happens}
 use Rattle.model.specs.Availability.{availabilityMoment, visibilityMoment}
 use Rattle.model.specs.Table.{Table}
 use Rattle.work_area.specs.Regions.{SYNC}
-use Rattle.model_closing.specs.Up.{Down}
 use Rattle.sets_of_rows.specs.declared.Set.{Set}
 use Rattle.sets_grids.specs.Regions.{HAPPENS, AVAILABLE-AT, AVAILABLE-VISIBLE, AVAILABLE-AVAILABLE, VISIBLE-VISIBLE, DEPENDS}
 use Rattle.sets_grids.specs.Grid.{Grid}
@@ -59,9 +57,8 @@ pub record HappensBy (t : Table) (done : ℕ → Bool) (n : ℕ) (w : List ℕ) 
   pub visibles : Grid VISIBLE-VISIBLE n (λ v u. orderBy t done (visibilityMoment t v) (visibilityMoment t u)) w
 
 -- what they are made from
-pub record Leading (t : Table) (n : ℕ) (ends : Set) (down : Bool) (s w : List ℕ) : Type 0 where
+pub record Leading (t : Table) (n : ℕ) (ends : Set) (s w : List ℕ) : Type 0 where
   pub given : Given t n s w
   pub told : Told t n ends
   pub syncs : Grid SYNC n (synchronizes t) w
   pub depends : Grid DEPENDS n (t .depends) w
-  pub leads : down ≡ true → (c : ℕ) → Down t c

@@ -6,7 +6,8 @@ use Prim.Native.Nat.{ℕ, zero, suc, _+_, _-_, _*_, _≤_, _<_}
 use native.Mathlib.Omega.{arith}
 use native.Mathlib.Numerals.{add-one}
 use native.Mathlib.Decide.{decLt, ℕ-discrete}
-use lib.ListN.{length, getD}
+use lib.ListN.{length, getD, set}
+use lib.Seq.{getD-set-same, getD-set-other}
 use lib.Dec.{eqb, ltb, leb}
 use borrow.Author.Tests.{eq-eqb, ne-eqb, eqb-true, ltb-true, lt-ltb, le-ltb, le-leb, lt-leb}
 use Rattle.finite.specs.Logic.{_and_, _or_, bool-ext, not-both, and-true, split, or-off, and-false-left, and-false-right}
@@ -43,7 +44,18 @@ pub record Level (p : List (List ℕ)) (a b l : ℕ) : Type 0 where
   pub bound : l ≤ SCOPES
   pub is : (q : ℕ) → q < SCOPES → shares p q a b ≡ leb l q
 
+-- the same of agent a with each of the first m
+pub record Levels (p : List (List ℕ)) (a m : ℕ) (l : List ℕ) : Type 0 where
+  pub each : (b : ℕ) → b < m → Level p a b (getD l b 0)
+
 -- ---- laws: levels
+
+pub levels-more : {p : List (List ℕ)} {a m : ℕ} {l : List ℕ} (v : ℕ) → m < length l → Levels p a m l → Level p a m v → Levels p a (m + 1) (set l m v)
+levels-more {p} {a} {m} {l} v room h d = record { each = λ b o. go b o (ℕ-discrete b m) }
+  where
+    go : (b : ℕ) → b < m + 1 → Dec (b ≡ m) → Level p a b (getD (set l m v) b 0)
+    go b o (yes e) = subst (λ (k : ℕ). Level p a k (getD (set l m v) k 0)) (sym e) (subst (λ (k : ℕ). Level p a m k) (sym (getD-set-same l m v 0 room)) d)
+    go b o (no e) = subst (λ (k : ℕ). Level p a b k) (sym (getD-set-other l m b v 0 e)) (h .each b (omega (arith, o, e)))
 
 pub level-alien : (p : List (List ℕ)) (a b : ℕ) → (not (eqb (getD (getD p b []) 3 0) 0) or not (eqb (getD (getD p a []) 3 0) 0)) ≡ true → Level p a b 5
 level-alien p a b h =

@@ -1,8 +1,12 @@
 // For each agent and each scope the rows of the agents that share it with that agent.
-ghost use Prim.Native.Nat.{_+_, _*_, _≤_, _<_};
-ghost use lib.ListN.{length};
+ghost use mathlib.Core.Path.{_≡_};
+ghost use mathlib.Core.List.{List, []};
+ghost use Prim.Native.Nat.{ℕ, _+_, _*_, _≤_, _<_};
+ghost use lib.ListN.{length, getD};
+ghost use lib.Dec.{eqb};
+ghost use Rattle.finite.specs.Several.{TwoOf};
 ghost use Rattle.model.specs.Limits.{AGENTS};
-ghost use Rattle.sets_of_table.specs.Share.{SCOPES, SHARE, SHARE-END, Level, Takes, Adds, SharedTo, SharedIf, SharesTo};
+ghost use Rattle.sets_of_table.specs.Share.{SCOPES, SHARE, SHARE-END, Level, Levels, Takes, Adds, SharedTo, SharedIf, SharesTo};
 ghost use Rattle.sets_of_table.specs.Hears.{Hears, HEARS-END, HeardIf, HeardTo, HostsTo, SharesAll};
 use door_rows::scopes;
 use model::Places;
@@ -18,18 +22,16 @@ const SCOPE: usize = 52;
 
 const SCOPES: usize = 5;
 
-// The first scope that two agents share, which then share all after it; SCOPES where they share none.
+// The first scope that two agents share by their places, which then share all after it; SCOPES where they share none. `own` says that
+// they are one.
 // Ruled out: one that takes a host agent for a shader agent; one that asks the workgroup's number alone.
-fn level(p: Places, a: usize, b: usize) -> usize
-    requires { ⌜ (a < AGENTS) × (b < AGENTS) ⌝ }
-    ensures { λ l. ⌜ Level p a b l ⌝ }
+fn level(x: [u16; 4], y: [u16; 4], own: bool) -> usize
+    ensures { λ l. ⌜ ((p : List (List ℕ)) (a b : ℕ) → x ≡ getD p a [] → y ≡ getD p b [] → own ≡ eqb a b → Level p a b l) ⌝ }
 {
-    let x = p[a];
-    let y = p[b];
     if (y[3] != scopes::SHADER) | (x[3] != scopes::SHADER) {
         return SCOPES;
     }
-    if a == b {
+    if own {
         return 0;
     }
     if x[0] != y[0] {
@@ -44,6 +46,20 @@ fn level(p: Places, a: usize, b: usize) -> usize
     1
 }
 
+// The scope test: of agent a with each agent, by the places of all.
+fn levels(p: Places, a: usize) -> [usize; 32]
+    requires { ⌜ a < AGENTS ⌝ }
+    ensures { λ l. ⌜ Levels p a AGENTS l ⌝ }
+{
+    let x = p[a];
+    let mut l = [0usize; model::AGENTS];
+    for b in 0..model::AGENTS {
+        let y = p[b];
+        l[b] = level(x, y, a == b);
+    }
+    l
+}
+
 // The sets of scopes from l on, of those from word `base` on, take in v.
 fn join_from(s: &mut [u64], base: usize, l: usize, v: Set)
     requires { ⌜ (base + 10 ≤ length (now s)) × (l ≤ SCOPES) ⌝ }
@@ -54,14 +70,13 @@ fn join_from(s: &mut [u64], base: usize, l: usize, v: Set)
     }
 }
 
-// The sets of agent a take in the rows of agent b.
-fn join_agent(s: &mut [u64], p: Places, a: usize, b: usize)
-    requires { ⌜ (SHARE-END ≤ length (now s)) × (a < AGENTS) × (b < AGENTS) ⌝ }
-    ensures { λ _. ⌜ Adds p a b (now (s .entry)) (now (s .exit)) ⌝ }
+// The sets of agent a, from scope l on, take in the rows of agent b.
+fn join_agent(s: &mut [u64], l: usize, a: usize, b: usize)
+    requires { ⌜ (SHARE-END ≤ length (now s)) × TwoOf AGENTS a b × (l ≤ SCOPES) ⌝ }
+    ensures { λ _. ⌜ ((p : List (List ℕ)) → Level p a b l → Adds p a b (now (s .entry)) (now (s .exit))) ⌝ }
 {
     let v = kept::get(s, 0, AGENT + b);
     if sets_of_rows::some(v) {
-        let l = level(p, a, b);
         join_from(s, SHARE + 10 * a, l, v);
     }
 }
@@ -73,8 +88,10 @@ fn share_one(s: &mut [u64], p: Places, a: usize)
 {
     let base = SHARE + 10 * a;
     bits::clear(s, base, base + 10);
+    let l = levels(p, a);
     for b in 0..model::AGENTS {
-        join_agent(s, p, a, b);
+        let m = l[b];
+        join_agent(s, m, a, b);
     }
 }
 

@@ -60,10 +60,10 @@ calm {t} {n} {c} {ends} {k} rows few told h free e = inter-order t c (calm-sync 
     none : (a b : ℕ) → t .depends a b ≡ false
     none a b = not-so _ (λ d. let p = told .told a b d .0 in let l = told .rows a p in not-both (any-in (inSet ends) ROWS a (omega (arith, few)) p) free)
 
-pub asks-of : {t : Table} {n c : ℕ} {ends : Set} {k : Concerned} {down : Bool} {s w : List ℕ} → Leading t n ends down s w → Concerns t n c ends k → Asks t n c ends k down s w
-asks-of {c = c} g h = record { given = g .given; told = g .told; concerns = h; syncs = g .syncs; depends = g .depends; leads = λ e. g .leads e c }
+pub asks-of : {t : Table} {n c : ℕ} {ends : Set} {k : Concerned} {s w : List ℕ} → Leading t n ends s w → Concerns t n c ends k → Asks t n c ends k s w
+asks-of g h = record { given = g .given; told = g .told; concerns = h; syncs = g .syncs; depends = g .depends }
 
-pub reached-of : {t : Table} {n c : ℕ} {ends : Set} {k : Concerned} {down : Bool} {s w u : List ℕ} → Leading t n ends down s w → Concerns t n c ends k
+pub reached-of : {t : Table} {n c : ℕ} {ends : Set} {k : Concerned} {s w u : List ℕ} → Leading t n ends s w → Concerns t n c ends k
     → MadeReach t n c ends w u → Reached t n c ends k s u
 reached-of g h m =
     record { given = given-kept (m .frame) (g .given); told = g .told; concerns = h; at = m .at; visible = m .visible; available = m .available }

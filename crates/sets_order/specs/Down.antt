@@ -2,19 +2,17 @@
 use mathlib.Core.Path.{_≡_, sym, ap, ap₂, _∙_}
 use mathlib.Core.Bool.{Bool, true, false, not}
 use mathlib.Core.List.{List}
-use mathlib.Core.Logic.{_⊎_, inl, inr}
-use Prim.Native.Nat.{ℕ, _+_, _*_, _≤_, _<_}
+use Prim.Native.Nat.{ℕ, _+_, _*_, _<_}
 use native.Mathlib.Omega.{arith}
 use lib.Dec.{ltb}
-use borrow.Author.Tests.{ltb-true, lt-ltb}
-use Rattle.finite.specs.Logic.{_and_, which, not-both, not-in, not-out, and-true, and-on, and-on-right, and-false-left}
+use borrow.Author.Tests.{lt-ltb}
+use Rattle.finite.specs.Logic.{_and_, not-in, and-on, and-on-right, and-false-left}
 use Rattle.finite.specs.Below.{anyBelow, any-in, any-not, any-cong, least, least-is}
 use Rattle.model.specs.Limits.{ROWS}
 use Rattle.sets_of_rows.specs.declared.Set.{Set}
 use Rattle.sets_of_rows.specs.Member.{inSet}
 use Rattle.sets_of_rows.specs.Kept.{setAt}
 use Rattle.sets_of_rows.specs.Family.{nth}
-use Rattle.sets_grids.specs.Grid.{Grid, grid-in}
 
 -- ---- definitions
 
@@ -52,17 +50,3 @@ upward-found w base x a l e = sym (ap not (any-in (upwardFrom w base x) ROWS a l
 pub upward-end : (w : List ℕ) (base : ℕ) (x : Set) → ROWS ≡ least ROWS (upwardFrom w base x) → true ≡ downFrom w base x
 unfolding downFrom
 upward-end w base x e = sym (not-in (any-not (upwardFrom w base x) ROWS (λ i l. least-is (upwardFrom w base x) ROWS .miss i (omega (arith, e)))))
-
--- ---- laws: what it says of a relation
-
-pub down-out : {w : List ℕ} {base n : ℕ} (x : Set) {r : ℕ → ℕ → Bool} → n ≤ ROWS → Grid base n r w → downFrom w base x ≡ true
-    → (i j : ℕ) → i < n → j < n → inSet x i ≡ true → r i j ≡ true → i < j
-unfolding downFrom upwardFrom upward
-down-out {w} {base} {n} x {r} few g h i j l o m f = go (which (ltb i j))
-  where
-    go : (ltb i j ≡ true) ⊎ (ltb i j ≡ false) → i < j
-    go (inl e) = ltb-true i j e
-    go (inr e) =
-        not-both
-        (any-in (upwardFrom w base x) ROWS i (omega (arith, few)) (and-true m (any-in (upward w base i) ROWS j (omega (arith, few)) (and-true (grid-in g i j l o ∙ f) (not-in e)))))
-        (not-out (anyBelow ROWS (upwardFrom w base x)) h)

@@ -174,7 +174,7 @@ pub widest-on : {t : Table} {n c : ℕ} {w u : List ℕ} → t .rows ≡ n → w
 widest-on {t} {c = c} rows e a = record { order = λ h. done-cong rows (λ k l. wide-more t c k e) (a .order (wideTo t c) h); depends = a .depends; frame = a .frame }
 
 -- what it is made from stays so
-pub leading-kept : {t : Table} {n : ℕ} {ends : Set} {down : Bool} {s w u : List ℕ} → Within HAPPENS REACH-END w u → Grid DEPENDS n (t .depends) u → Leading t n ends down s w → Leading t n ends down s u
+pub leading-kept : {t : Table} {n : ℕ} {ends : Set} {s w u : List ℕ} → Within HAPPENS REACH-END w u → Grid DEPENDS n (t .depends) u → Leading t n ends s w → Leading t n ends s u
 leading-kept f d g =
     let few = given-few (g .given) in
-    record { given = given-kept f (g .given); told = g .told; syncs = grid-kept (λ o. absurd (omega (arith, o, few))) f (g .syncs); depends = d; leads = g .leads }
+    record { given = given-kept f (g .given); told = g .told; syncs = grid-kept (λ o. absurd (omega (arith, o, few))) f (g .syncs); depends = d }

@@ -1,6 +1,6 @@
 -- Dependencies and their closure. Assumes nothing.
 use mathlib.Core.Path.{_≡_, refl, sym, _∙_}
-use mathlib.Core.Bool.{Bool, true, false, not}
+use mathlib.Core.Bool.{true, false, not}
 use mathlib.Core.List.{List}
 use mathlib.Core.Logic.{_⊎_, inl, inr}
 use Prim.Native.Nat.{ℕ, _*_, _<_}
@@ -17,20 +17,18 @@ use Rattle.model_laws.specs.CaseLaws.{step-out}
 use Rattle.model_closing.specs.Order.{own-row, own-part}
 use Rattle.model_closing.specs.Nodes.{step-system, node}
 use Rattle.model_closing.specs.Sets.{reachedAt}
-use Rattle.model_closing.specs.Up.{Down}
 use Rattle.sets_of_rows.specs.Member.{inSet}
 use Rattle.sets_of_rows.specs.Rows.{Rows}
 use Rattle.sets_of_table.specs.Fit.{Fit}
-use Rattle.model.specs.Synchronizes.{synchronizes}
 use Rattle.model.specs.Table.{Table}
 use Rattle.bits.specs.Within.{Within}
-use Rattle.work_area.specs.Regions.{SYNC}
 use Rattle.sets_of_rows.specs.declared.Set.{Set}
 use Rattle.sets_grids.specs.Regions.{DEPENDS, DEPENDS-END, REACH-AT, SYSTEM, SYSTEM-END}
 use Rattle.sets_grids.specs.Grid.{Grid, MadeGrid, grid-kept}
-use Rattle.sets_grids.specs.Given.{Given, given-few, given-kept}
+use Rattle.sets_grids.specs.Given.{given-few, given-kept}
 use Rattle.sets_grids.specs.declared.Concerned.{Concerned}
 use Rattle.sets_grids.specs.Concerns.{Told, Concerns}
+use Rattle.sets_grids.specs.Happens.{Leading}
 use Rattle.sets_grids.specs.Reach.{Asks}
 
 -- ---- definitions
@@ -39,14 +37,6 @@ pub record MadeDepends (t : Table) (n : ℕ) (ends : Set) (w u : List ℕ) : Typ
   pub told : Told t n ends
   pub depends : Grid DEPENDS n (t .depends) u
   pub frame : Within DEPENDS DEPENDS-END w u
-
--- what the closure is made from
-pub record Depending (t : Table) (n : ℕ) (ends : Set) (down : Bool) (s w : List ℕ) : Type 0 where
-  pub given : Given t n s w
-  pub told : Told t n ends
-  pub syncs : Grid SYNC n (synchronizes t) w
-  pub depends : Grid DEPENDS n (t .depends) w
-  pub leads : down ≡ true → (i j : ℕ) → i < n → j < n → t .depends i j ≡ true → i < j
 
 abbrev pub MadeSystem : Table → ℕ → List ℕ → List ℕ → Type 0
 MadeSystem t n w u = MadeGrid REACH-AT SYSTEM-END SYSTEM n (systemBefore t) w u
@@ -111,14 +101,6 @@ module _ (t : Table) (fit : Fit t) where
       let s = system-is i j (omega (arith, rows)) (omega (arith, rows)) in
       bool-ext _ _ (λ e. sym s ∙ split e .1) (λ e. and-true (system-from told i j e) (s ∙ e))
 
-  pub down-none : {n : ℕ} → t .rows ≡ n → ((i j : ℕ) → i < n → j < n → t .depends i j ≡ true → i < j) → Down t 16
-  unfolding bySync
-  down-none {n} rows f =
-      record {
-        sync = λ i j l o e. absurd (none-holding (itself i) (omega arith) (split (split e .0) .0));
-        system = λ i j l o e. f i j (omega (arith, rows)) (omega (arith, rows)) e;
-      }
-
 pub told-rows : {t : Table} {n : ℕ} {ends : Set} → Told t n ends → Rows n (inSet ends) ends
 told-rows {t} {n} {ends} told = record { is = λ j. bool-ext _ _ (λ e. and-true (lt-ltb j n (told .rows j e)) e) (λ e. split e .1) }
 
@@ -126,8 +108,8 @@ pub end-node : (t : Table) (ends : Set) (i : ℕ) → inSet ends i ≡ true → 
 unfolding node
 end-node t ends i e = or-right _ e
 
-pub asks-none : {t : Table} {n : ℕ} {ends : Set} {k : Concerned} {down : Bool} {s w u : List ℕ} → Depending t n ends down s w → Concerns t n 16 ends k
-    → Within SYSTEM SYSTEM-END w u → Asks t n 16 ends k down s u
+pub asks-none : {t : Table} {n : ℕ} {ends : Set} {k : Concerned} {s w u : List ℕ} → Leading t n ends s w → Concerns t n 16 ends k
+    → Within SYSTEM SYSTEM-END w u → Asks t n 16 ends k s u
 asks-none {t} g h f =
     let few = given-few (g .given) in
     record {
@@ -136,5 +118,4 @@ asks-none {t} g h f =
       concerns = h;
       syncs = grid-kept (λ o. absurd (omega (arith, o, few))) f (g .syncs);
       depends = grid-kept (λ o. absurd (omega (arith, o, few))) f (g .depends);
-      leads = λ e. down-none t (g .given .opened .fit) (g .given .opened .rows) (g .leads e);
     }

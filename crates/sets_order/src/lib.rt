@@ -39,7 +39,7 @@ pub fn leads_down(w: &[u64], base: usize, x: Set) -> bool
 
 // All of it for the class set c, if there is any beside program order.
 fn add_inter_thread(t: &Run, n: usize, s: &[u64], c: usize, ends: Set, down: bool, w: &mut [u64])
-    requires { ⌜ ClassSet c × Leading (tableIn (now t) n) n ends down (now s) (now w) ⌝ }
+    requires { ⌜ ClassSet c × Leading (tableIn (now t) n) n ends (now s) (now w) ⌝ }
     ensures { λ _. ⌜ AddsInter (tableIn (now (t .entry)) n) n c (now (w .entry)) (now (w .exit)) ⌝ }
 {
     let k = sets_closure::of_classes(t, n, s, ends, c);
@@ -54,7 +54,7 @@ fn add_inter_thread(t: &Run, n: usize, s: &[u64], c: usize, ends: Set, down: boo
 
 // The same, unless another class set stands for c.
 fn add_widest(t: &Run, n: usize, s: &[u64], c: usize, ends: Set, down: bool, w: &mut [u64])
-    requires { ⌜ ClassSet c × Leading (tableIn (now t) n) n ends down (now s) (now w) ⌝ }
+    requires { ⌜ ClassSet c × Leading (tableIn (now t) n) n ends (now s) (now w) ⌝ }
     ensures { λ _. ⌜ AddsWidest (tableIn (now (t .entry)) n) n c (now (w .entry)) (now (w .exit)) ⌝ }
 {
     if !sets_closure::is_widest(t, n, s, c) {
@@ -68,7 +68,7 @@ fn add_widest(t: &Run, n: usize, s: &[u64], c: usize, ends: Set, down: bool, w: 
 // The five grids of happens-before: program order, and inter-thread order for the class sets that no other stands for; the last one, of all
 // classes, has the dependencies at least.
 pub fn fill_happens(t: &Run, n: usize, s: &[u64], ends: Set, down: bool, w: &mut [u64])
-    requires { ⌜ Leading (tableIn (now t) n) n ends down (now s) (now w) ⌝ }
+    requires { ⌜ Leading (tableIn (now t) n) n ends (now s) (now w) ⌝ }
     ensures { λ _. ⌜ MadeHappens (tableIn (now (t .entry)) n) n (now (w .entry)) (now (w .exit)) ⌝ }
 {
     sets_happens::put_program_order(t, n, s, w);
@@ -77,7 +77,8 @@ pub fn fill_happens(t: &Run, n: usize, s: &[u64], ends: Set, down: bool, w: &mut
     }
 }
 
-// The closure of the dependencies, M6 and M7. Where synchronizes-with and dependencies lead down the page, closures are one pass up it.
+// The closure of the dependencies, M6 and M7. Which way synchronizes-with and dependencies lead on the page says in
+// which order the nodes are searched from, and nothing else.
 pub fn order(t: &Run, n: usize, s: &[u64], w: &mut [u64])
     requires { ⌜ FitRun (now t) n × Given (tableIn (now t) n) n (now s) (now w) × Grid SYNC n (synchronizes (tableIn (now t) n)) (now w) ⌝ }
     ensures { λ _. ⌜ MadeOrder (tableIn (now (t .entry)) n) n (now (w .entry)) (now (w .exit)) ⌝ }

@@ -4,7 +4,8 @@ ghost use lib.ListN.{length};
 ghost use Rattle.model.specs.Limits.{WORK};
 ghost use Rattle.run.specs.Layout.{tableIn};
 ghost use Rattle.sets_of_table.specs.Fit.{FitRun};
-ghost use Rattle.sets_order.specs.System.{MadeDepends, Depending, MadeSystem};
+ghost use Rattle.sets_grids.specs.Happens.{Leading};
+ghost use Rattle.sets_order.specs.System.{MadeDepends, MadeSystem};
 use run::Run;
 use sets_of_rows::Set;
 use sets_of_rows::kept;
@@ -30,7 +31,7 @@ pub fn fill_depends(t: &Run, n: usize, w: &mut [u64]) -> Set
 
 // SYSTEM: the closure of the dependencies, as inter-thread order of a class set that concerns no row.
 pub fn fill_system(t: &Run, n: usize, s: &[u64], ends: Set, down: bool, w: &mut [u64])
-    requires { ⌜ Depending (tableIn (now t) n) n ends down (now s) (now w) ⌝ }
+    requires { ⌜ Leading (tableIn (now t) n) n ends (now s) (now w) ⌝ }
     ensures { λ _. ⌜ MadeSystem (tableIn (now (t .entry)) n) n (now (w .entry)) (now (w .exit)) ⌝ }
 {
     bits::clear(w, sets_grids::SYSTEM, sets_grids::SYSTEM_END);

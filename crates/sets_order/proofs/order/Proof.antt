@@ -30,7 +30,7 @@ fill-system-requires c κs =
     let c-4 = c .before .before .before .before in
     let c-8 = c-4 .before .before .before .before in
     let c-12 = c-8 .before .before .before .before in
-    depending-of (c-12 .pre .1) (c-12 .pre .2) (c-8 .fill-depends .ensures) (c-4 .leads-down .ensures)
+    depending-of (c-12 .pre .1) (c-12 .pre .2) (c-8 .fill-depends .ensures)
 
 fill-happens-requires : tie.Need-fill-happens-requires
 fill-happens-requires c κs =
@@ -38,7 +38,7 @@ fill-happens-requires c κs =
     let c-8 = c-4 .before .before .before .before in
     let c-12 = c-8 .before .before .before .before in
     let c-16 = c-12 .before .before .before .before in
-    leading-of _ _ (depending-of (c-16 .pre .1) (c-16 .pre .2) (c-12 .fill-depends .ensures) (c-8 .leads-down .ensures)) (c-4 .before .before .rows .ensures) (c-4 .before .leads-down2 .ensures) (c .before .before .before .fill-system .ensures)
+    leading-of (depending-of (c-16 .pre .1) (c-16 .pre .2) (c-12 .fill-depends .ensures)) (c .before .before .before .fill-system .ensures)
 
 same-length : tie.Need-same-length
 same-length c =

@@ -10,12 +10,9 @@ mod native;
 mod page;
 mod parse;
 mod program;
-mod value;
-mod words;
 
-pub use eval::{Evaluator, Found, Pass, Stop, Watcher};
-pub use native::OF_FINITE;
-pub use parse::Expr;
-pub use program::{Clause, Program, Ready};
-pub use value::Value;
-pub use words::{bound, outside, words, Word};
+pub use eval::{Evaluator, Found, Value};
+pub use native::{library, OF_FINITE};
+pub use page::{words, Definition, Word};
+pub use parse::{Clause, Expr};
+pub use program::{Program, Ready};

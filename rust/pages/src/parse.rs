@@ -1,79 +1,62 @@
-//! Expressions.
+//! Clauses of a definition read into expressions, where each name has what it
+//! stands for.
 
-use crate::eval::Found;
+use crate::eval::{Found, Value};
 use crate::native::Native;
-use crate::value::Value;
-use crate::words::Word;
-use std::collections::HashMap;
+use crate::page::{Definition, Word};
+use crate::program::Program;
 
 /// An expression. An operator is a name with a place at each side, as `_+_`.
-/// Before it is evaluated its names give way to what they stand for.
 #[derive(Clone)]
 pub enum Expr {
-    Name(Word),
-    Number(u64),
+    /// A place of the environment.
+    Local(Word, usize),
+    /// A number or another value that has a name.
+    Constant(Word, Value),
+    Native(&'static Native),
+    Constructor(Word),
+    /// A definition, with how many of the first places of the environment are
+    /// given to it: parameters of modules that it stands in too.
+    Defined(Word, &'static Definition, usize),
     Apply(Box<Expr>, Vec<Expr>),
     Field(Box<Expr>, Word),
     Record(Vec<(Word, Expr)>),
-    Function(Vec<Word>, Box<Expr>),
-    Let(Word, Box<Expr>, Box<Expr>),
-    /// A statement about all numbers of these names.
-    All(Vec<Word>, Box<Expr>),
-    /// For names: a place of the environment, a definition, and what is known
-    /// without a page.
-    Local(usize),
-    Defined(usize),
-    Native(Native),
-    Constant(Value),
+    /// Its names, and how many there are with those around it. `let` is one that
+    /// is applied.
+    Function(Vec<Word>, usize, Box<Expr>),
 }
 
-impl Expr {
-    /// The expressions that it is made of.
-    pub fn parts(&mut self) -> Vec<&mut Expr> {
-        match self {
-            Expr::Apply(head, arguments) => [&mut **head].into_iter().chain(arguments).collect(),
-            Expr::Record(fields) => fields.iter_mut().map(|(_, value)| value).collect(),
-            Expr::Let(_, value, body) => vec![value, body],
-            Expr::Field(part, _) | Expr::Function(_, part) | Expr::All(_, part) => vec![part],
-            _ => Vec::new(),
-        }
-    }
-}
+/// The patterns and the body.
+pub type Clause = (Vec<Expr>, Expr);
 
-/// An operator by itself: its name, how tightly it binds, and whether it groups
-/// to the right.
-pub type Operators = HashMap<Word, (Word, u32, bool)>;
+/// Words that end an expression; the first is that of the end.
+const ENDS: [Word; 6] = ["", ")", "}", ";", "=", "in"];
 
-/// The library's own; a page says those that it defines.
-pub const LIBRARY: Word = "
-infixr 0 _→_
-infixr 1 _×_
-infixr 2 _⊎_
-infix 4 _≡_
-infix 50 _<_
-infixl 65 _+_ _-_ _++_
-infixr 67 _∷_
-infixl 70 _*_ _/_ _%_
-";
-
-pub fn expression(words: &[Word], operators: &Operators) -> Found<Expr> {
-    let mut parser = Parser { words, operators };
-    let expression = parser.expression(0)?;
-    parser.expect("")?;
-    Ok(expression)
-}
-
-/// Words that no expression begins with; the first is that of the end.
-const BETWEEN: [Word; 13] = [
-    "", ")", "{", "}", ";", ",", ".", "=", ":", "in", "let", "λ", "where",
-];
-
-struct Parser<'a> {
-    words: &'a [Word],
-    operators: &'a Operators,
+pub struct Parser<'a> {
+    pub program: &'a Program,
+    pub definition: &'a Definition,
+    pub words: &'a [Word],
+    /// Names by their places in the environment.
+    pub locals: Vec<Word>,
+    pub is_pattern: bool,
 }
 
 impl Parser<'_> {
+    /// `name pattern .. = body` or `pattern operator pattern = body`; what the
+    /// modules give comes before the patterns.
+    pub fn clause(&mut self) -> Found<Clause> {
+        let given = self.locals.iter().enumerate();
+        let mut patterns: Vec<Expr> = given.map(|(at, name)| Expr::Local(name, at)).collect();
+        if let Expr::Apply(_, own) = self.expression(0)? {
+            patterns.extend(own);
+        }
+        self.expect("=")?;
+        self.is_pattern = false;
+        let body = self.expression(0)?;
+        self.expect("")?;
+        Ok((patterns, body))
+    }
+
     fn peek(&self) -> Word {
         self.words.first().copied().unwrap_or_default()
     }
@@ -91,23 +74,23 @@ impl Parser<'_> {
         }
     }
 
-    /// The words before this one, all of them names.
-    fn names(&mut self, end: Word) -> Found<Vec<Word>> {
-        let count = self.words.iter().position(|word| *word == end);
-        let (names, rest) = self.words.split_at(count.ok_or(end)?);
-        self.words = &rest[1..];
-        Ok(names.to_vec())
+    /// A function of these names, which have the next places in its body.
+    fn function(&mut self, names: &[Word]) -> Found<Expr> {
+        self.locals.extend(names);
+        let places = self.locals.len();
+        let body = Box::new(self.expression(0)?);
+        self.locals.truncate(places - names.len());
+        Ok(Expr::Function(names.to_vec(), places, body))
     }
 
     /// Operators that bind at least so tightly.
     fn expression(&mut self, least: u32) -> Found<Expr> {
-        let is_mark = |word: &&Word| ["(", ")", ":"].contains(*word);
-        let is_bound = self.words.iter().skip(1).find(is_mark) == Some(&":");
         let mut left = match self.peek() {
             "λ" => {
-                self.next();
-                let names = self.names(".")?;
-                return Ok(Expr::Function(names, Box::new(self.expression(0)?)));
+                let end = self.words.iter().position(|word| *word == ".");
+                let (names, rest) = self.words.split_at(end.ok_or("λ without a dot")?);
+                self.words = &rest[1..];
+                return self.function(&names[1..]);
             }
             "let" => {
                 self.next();
@@ -115,27 +98,18 @@ impl Parser<'_> {
                 self.expect("=")?;
                 let value = self.expression(0)?;
                 self.expect("in")?;
-                let body = self.expression(0)?;
-                return Ok(Expr::Let(name, Box::new(value), Box::new(body)));
-            }
-            // `(name .. : type) → statement`
-            "(" if is_bound => {
-                self.next();
-                let names = self.names(":")?;
-                self.expression(0)?;
-                self.expect(")")?;
-                self.expect("→")?;
-                return Ok(Expr::All(names, Box::new(self.expression(0)?)));
+                let function = self.function(&[name])?;
+                return Ok(Expr::Apply(Box::new(function), vec![value]));
             }
             _ => self.application()?,
         };
-        while let Some(&(name, binds, right)) = self.operators.get(self.peek()) {
+        while let Some(&(name, binds, right)) = self.program.operators.get(self.peek()) {
             if binds < least {
                 break;
             }
             self.next();
             let after = self.expression(if right { binds } else { binds + 1 })?;
-            left = Expr::Apply(Box::new(Expr::Name(name)), vec![left, after]);
+            left = Expr::Apply(Box::new(self.name(name)?), vec![left, after]);
         }
         Ok(left)
     }
@@ -145,7 +119,7 @@ impl Parser<'_> {
         let mut head = self.atom()?;
         loop {
             let word = self.peek();
-            if BETWEEN.contains(&word) || self.operators.contains_key(word) {
+            if ENDS.contains(&word) || self.program.operators.contains_key(word) {
                 return Ok(head);
             }
             head = match (word.strip_prefix('.'), head) {
@@ -181,8 +155,31 @@ impl Parser<'_> {
                 self.expect("}")?;
                 Ok(Expr::Record(fields))
             }
-            word if BETWEEN.contains(&word) => Err(format!("{word:?} for an expression").into()),
-            word => Ok(word.parse().map_or(Expr::Name(word), Expr::Number)),
+            word if ENDS.contains(&word) => Err(format!("{word:?} for an expression").into()),
+            word => self.name(word),
         }
+    }
+
+    /// At the left a name is new, unless it is a constructor's or the definition's.
+    fn name(&mut self, word: Word) -> Found<Expr> {
+        let is_new = self.is_pattern && word != self.definition.name;
+        let known = self.locals.iter().rposition(|local| *local == word);
+        match (known, self.program.meaning(word, self.definition)) {
+            (Some(place), _) if !self.is_pattern => Ok(Expr::Local(word, place)),
+            (_, Some(meaning)) if !is_new || is_constructor(&meaning) => Ok(meaning),
+            _ if is_new => {
+                self.locals.push(word);
+                Ok(Expr::Local(word, self.locals.len() - 1))
+            }
+            _ => Err(format!("{word} is not known").into()),
+        }
+    }
+}
+
+fn is_constructor(meaning: &Expr) -> bool {
+    match meaning {
+        Expr::Constant(..) | Expr::Constructor(_) => true,
+        Expr::Native((word, ..)) => ["suc", "_∷_"].contains(word),
+        _ => false,
     }
 }

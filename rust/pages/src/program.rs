@@ -1,25 +1,33 @@
-//! Pages read from their files, and definitions made ready when they are first
-//! called: each name gives way to what it stands for.
+//! Pages read from their files, and what their names stand for.
 
-use crate::eval::Found;
-use crate::native::{of_library, Native, OF_FINITE};
-use crate::page::Page;
-use crate::parse::{expression, Expr, Operators, LIBRARY};
-use crate::value::Value;
-use crate::words::{outside, Word};
+use crate::eval::{Found, Value};
+use crate::native::library;
+use crate::page::{Definition, Operators, Page, Word};
+use crate::parse::{Clause, Expr, Parser};
 use std::collections::HashMap;
 use std::fs;
-use std::mem;
 use std::path::PathBuf;
 
-/// A clause: its patterns and its body.
-pub type Clause = (Vec<Expr>, Expr);
+/// The library's own operators; a page says those that it defines.
+const LIBRARY: Word = "
+infixl 65 _+_ _-_ _++_
+infixr 67 _∷_
+infixl 70 _*_ _/_ _%_
+";
+
+/// Words for a search, or by which something is made.
+const COSTLY: [Word; 9] = [
+    "anyBelow", "allBelow", "least", "tabulate", "through", "record", "++", "take", "drop",
+];
 
 /// A definition that is ready to be called.
 pub struct Ready {
     pub arity: usize,
     pub clauses: Vec<Clause>,
-    /// What it gives is kept, by its arguments.
+    /// Its arguments are evaluated first. One that asks which case there is may
+    /// not need them all.
+    pub is_strict: bool,
+    /// What it gives is kept by its arguments: it is long, or has a costly word.
     pub is_kept: bool,
     /// Its name, as an expression.
     pub own: Expr,
@@ -28,238 +36,116 @@ pub struct Ready {
 /// The pages of a folder of crates.
 pub struct Program {
     crates: PathBuf,
-    /// Whether the words of crate `finite` that are natives are taken as such.
-    has_natives: bool,
-    pages: HashMap<String, Page>,
-    operators: Operators,
-    ids: HashMap<String, usize>,
-    definitions: Vec<(String, Option<&'static Ready>)>,
-}
-
-/// What the names of a definition may stand for.
-struct Scope<'a> {
-    page: &'a str,
-    parameters: &'a [(usize, Word)],
-    locals: Vec<Word>,
+    pages: HashMap<String, &'static Page>,
+    pub(crate) operators: Operators,
 }
 
 impl Program {
-    pub fn new(crates: PathBuf, has_natives: bool) -> Program {
+    pub fn new(crates: PathBuf) -> Program {
         Program {
             crates,
-            has_natives,
             pages: HashMap::new(),
-            operators: Page::read(LIBRARY).operators,
-            ids: HashMap::new(),
-            definitions: Vec::new(),
+            operators: Page::read("", LIBRARY).operators,
         }
     }
 
-    /// A page by its text.
-    pub fn add(&mut self, name: &str, text: String) {
-        let page = Page::read(text.leak());
-        self.operators.extend(page.operators.clone());
+    /// A page by its text, with all pages that it uses.
+    pub fn add(&mut self, name: &str, text: &str) -> Found<()> {
+        let page: &'static Page = Box::leak(Box::new(Page::read(name, text)));
+        self.operators.extend(&page.operators);
         self.pages.insert(name.to_string(), page);
+        let mut used = page.uses.values().filter_map(|path| page_of(path));
+        used.try_for_each(|used| self.load(&used))
     }
 
-    /// A page, read when it is first named.
-    fn page(&mut self, name: &str) -> Found<&Page> {
-        if !self.pages.contains_key(name) {
-            let (folder, file) = name.split_once('/').unwrap_or((name, ""));
-            let file = format!("{folder}/specs/{}.antt", file.replace('.', "/"));
-            self.add(name, fs::read_to_string(self.crates.join(file))?);
+    fn load(&mut self, name: &str) -> Found<()> {
+        if self.pages.contains_key(name) {
+            return Ok(());
         }
-        Ok(&self.pages[name])
+        let (folder, file) = name.split_once('/').unwrap_or((name, ""));
+        let file = format!("{folder}/specs/{}.antt", file.replace('.', "/"));
+        self.add(name, &fs::read_to_string(self.crates.join(file))?)
     }
 
-    /// The number of `crate/Page.name`.
-    pub fn definition(&mut self, full: &str) -> usize {
-        let next = self.definitions.len();
-        let id = *self.ids.entry(full.to_string()).or_insert(next);
-        if id == next {
-            self.definitions.push((full.to_string(), None));
-        }
-        id
-    }
-
-    /// The definitions that were called so far.
-    pub fn called(&self) -> impl Iterator<Item = &str> {
-        let called = self.definitions.iter().filter(|(_, ready)| ready.is_some());
-        called.map(|(name, _)| name.as_str())
-    }
-
-    /// The words of a definition's type, and its clauses.
-    pub fn clauses(&mut self, full: &str) -> Found<(Vec<Word>, Vec<Clause>)> {
+    /// The definition `crate/Page.name`.
+    pub fn definition(&mut self, full: &str) -> Found<&'static Definition> {
         let (page, name) = full.split_once('.').unwrap_or((full, ""));
-        let page = self.page(page)?;
-        let definition = page.definitions.get(name).ok_or(full)?.clone();
-        // Operators are known once the pages that declare them are read.
-        let used: Vec<String> = page
-            .uses
-            .values()
-            .filter_map(|path| page_of(path))
-            .collect();
-        for page in used {
-            self.page(&page)?;
-        }
-        let clauses = definition.clauses.iter().map(|words| self.clause(words));
-        Ok((definition.kind, clauses.collect::<Found<_>>()?))
+        self.load(page)?;
+        Ok(self.pages[page].definitions.get(name).ok_or(full)?)
     }
 
-    /// `name patterns = body`
-    pub fn clause(&self, words: &[Word]) -> Found<Clause> {
-        let middle = outside(words, |word| word == "=").ok_or("no clause")?;
-        let patterns = match expression(&words[..middle], &self.operators)? {
-            Expr::Apply(_, patterns) => patterns,
-            _ => Vec::new(),
+    /// A clause of a definition, or one that might stand there.
+    pub fn clause(&self, definition: &Definition, words: &[Word]) -> Found<Clause> {
+        let mut parser = Parser {
+            program: self,
+            definition,
+            words,
+            locals: definition.parameters.clone(),
+            is_pattern: true,
         };
-        let body = expression(&words[middle + 1..], &self.operators)?;
-        Ok((patterns, body))
+        parser.clause()
     }
 
-    pub fn ready(&mut self, id: usize) -> Found<&'static Ready> {
-        if let Some(ready) = self.definitions[id].1 {
+    pub fn ready(&self, definition: &'static Definition) -> Found<&'static Ready> {
+        if let Some(ready) = definition.ready.get() {
             return Ok(ready);
         }
-        let full = self.definitions[id].0.clone();
-        let (_, clauses) = self.clauses(&full)?;
-        let ready = self.with_clauses(&full, clauses)?;
-        self.definitions[id].1 = Some(ready);
+        let clauses = definition.clauses.iter();
+        let clauses = clauses.map(|words| self.clause(definition, words));
+        let ready = Ready::new(definition, clauses.collect::<Found<_>>()?);
+        definition.ready.set(Some(ready));
         Ok(ready)
     }
 
-    /// Puts other clauses in the place of a definition's, or its own again.
-    pub fn replace(&mut self, full: &str, clauses: Option<Vec<Clause>>) -> Found<()> {
-        let ready = clauses.map(|clauses| self.with_clauses(full, clauses));
-        let id = self.definition(full);
-        self.definitions[id].1 = ready.transpose()?;
-        Ok(())
-    }
-
-    /// A definition with other clauses.
-    pub fn with_clauses(&mut self, full: &str, mut clauses: Vec<Clause>) -> Found<&'static Ready> {
-        let (page, name) = full.split_once('.').unwrap_or((full, ""));
-        let parameters = self.page(page)?.definitions[name].parameters.clone();
-        for (patterns, body) in &mut clauses {
-            let mut scope = Scope {
-                page,
-                parameters: &parameters,
-                locals: parameters.iter().map(|(_, name)| *name).collect(),
-            };
-            for pattern in patterns.iter_mut() {
-                self.resolve_pattern(pattern, &mut scope)?;
+    /// What a name stands for in a definition.
+    pub(crate) fn meaning(&self, word: Word, definition: &Definition) -> Option<Expr> {
+        let (used, name) = match word.rfind('.') {
+            Some(dot) => (&word[..=dot], &word[dot + 1..]),
+            None => (word, word),
+        };
+        let page = match self.pages[&definition.page].uses.get(used) {
+            Some(path) if path.ends_with("the-variants") => return Some(Expr::Constructor(name)),
+            Some(path) => page_of(path).unwrap_or_default(),
+            None => definition.page.clone(),
+        };
+        let there = self.pages.get(&page);
+        let is_native = page.starts_with("finite/") && library(name).is_some();
+        match there.and_then(|there| there.definitions.get(name)) {
+            Some(found) if !is_native => {
+                // Of one module both have the same word of its text.
+                let both = found.parameters.iter().zip(&definition.parameters);
+                let shared = both.take_while(|(one, two)| one.as_ptr() == two.as_ptr());
+                Some(Expr::Defined(word, found, shared.count()))
             }
-            patterns.splice(..0, (0..parameters.len()).map(Expr::Local));
-            self.resolve(body, &mut scope)?;
+            None if there.is_some_and(|there| there.constructors.contains(name)) => {
+                Some(Expr::Constructor(name))
+            }
+            _ => library(name),
         }
+    }
+}
+
+impl Ready {
+    /// A definition with clauses, its own or others.
+    pub fn new(definition: &'static Definition, clauses: Vec<Clause>) -> &'static Ready {
         let arity = clauses.first().map_or(0, |(patterns, _)| patterns.len());
-        // One that asks which case there is may not need its other arguments.
-        let asks = |pattern: &mut Expr| !matches!(pattern, Expr::Local(_)) && is_worth(pattern);
-        let asks = clauses
-            .iter_mut()
-            .any(|(patterns, _)| patterns.iter_mut().any(asks));
-        let is_worth = clauses.iter_mut().any(|(_, body)| is_worth(body));
-        let is_kept = arity > 0 && is_worth && !asks;
-        Ok(Box::leak(Box::new(Ready {
+        let asks = |pattern: &Expr| match pattern {
+            Expr::Apply(head, _) => matches!(**head, Expr::Constructor(_)),
+            Expr::Constant(_, value) => matches!(value, Value::Truth(_)),
+            pattern => matches!(pattern, Expr::Constructor(_)),
+        };
+        let is_strict = !clauses
+            .iter()
+            .any(|(patterns, _)| patterns.iter().any(asks));
+        let words = definition.clauses.concat();
+        let is_worth = words.len() > 16 || words.iter().any(|word| COSTLY.contains(word));
+        Box::leak(Box::new(Ready {
             arity,
             clauses,
-            is_kept,
-            own: Expr::Defined(self.definition(full)),
-        })))
-    }
-
-    /// A name is a place of the environment, unless it is a constructor's.
-    fn resolve_pattern(&mut self, pattern: &mut Expr, scope: &mut Scope) -> Found<()> {
-        match pattern {
-            Expr::Name(name) => match self.meaning(name, scope) {
-                Ok(constructor @ Expr::Constant(_)) => *pattern = constructor,
-                _ => {
-                    scope.locals.push(name);
-                    *pattern = Expr::Local(scope.locals.len() - 1);
-                }
-            },
-            Expr::Apply(head, inner) => {
-                self.resolve(head, scope)?;
-                for pattern in inner {
-                    self.resolve_pattern(pattern, scope)?;
-                }
-            }
-            _ => (),
-        }
-        Ok(())
-    }
-
-    fn resolve(&mut self, written: &mut Expr, scope: &mut Scope) -> Found<()> {
-        let before = scope.locals.len();
-        match written {
-            Expr::Name(name) => {
-                let place = scope.locals.iter().rposition(|local| local == name);
-                *written = match place {
-                    Some(place) => Expr::Local(place),
-                    None => self.meaning(name, scope)?,
-                };
-            }
-            Expr::Let(name, value, body) => {
-                self.resolve(value, scope)?;
-                scope.locals.push(name);
-                self.resolve(body, scope)?;
-            }
-            Expr::Function(names, body) | Expr::All(names, body) => {
-                scope.locals.extend(names.iter());
-                self.resolve(body, scope)?;
-            }
-            _ => {
-                for part in written.parts() {
-                    self.resolve(part, scope)?;
-                }
-            }
-        }
-        scope.locals.truncate(before);
-        // A definition of the same module is applied to its parameters already.
-        if let Expr::Apply(head, more) = written {
-            if let Expr::Apply(inner, given) = &mut **head {
-                given.append(more);
-                *written = Expr::Apply(inner.clone(), mem::take(given));
-            }
-        }
-        Ok(())
-    }
-
-    /// What a name stands for that the environment doesn't have.
-    fn meaning(&mut self, name: Word, scope: &Scope) -> Found<Expr> {
-        let here = self.page(scope.page)?;
-        let (path, name) = match name.rsplit_once('.') {
-            Some((alias, name)) => (here.aliases.get(alias), name),
-            None => (here.uses.get(name), name),
-        };
-        let constructor = Ok(Expr::Constant(Value::data(name, Vec::new())));
-        let page = match path {
-            Some(path) if path.ends_with("the-variants") => return constructor,
-            Some(path) => page_of(path),
-            None => Some(scope.page.to_string()),
-        };
-        let library = of_library(name).ok_or_else(|| format!("{name} is not known"));
-        let Some(page) = page else {
-            return Ok(library?);
-        };
-        let there = self.page(&page)?;
-        if there.constructors.contains(name) {
-            return constructor;
-        }
-        let Some(definition) = there.definitions.get(name) else {
-            return Ok(library?);
-        };
-        let is_own = |pair: &(_, _)| page == scope.page && pair.0 == pair.1;
-        let shared = definition.parameters.iter().zip(scope.parameters);
-        let shared = (0..shared.take_while(is_own).count()).map(Expr::Local);
-        let head = match self.has_natives && OF_FINITE.contains(&(&page, name)) {
-            true => library?,
-            false => Expr::Defined(self.definition(&format!("{page}.{name}"))),
-        };
-        Ok(match shared.len() {
-            0 => head,
-            _ => Expr::Apply(Box::new(head), shared.collect()),
-        })
+            is_strict,
+            is_kept: is_strict && is_worth,
+            own: Expr::Defined(definition.name, definition, 0),
+        }))
     }
 }
 
@@ -269,17 +155,4 @@ fn page_of(path: &str) -> Option<String> {
     let page = rest.strip_prefix("specs.")?;
     let folder = name.strip_suffix("·specs").unwrap_or(name);
     (!page.starts_with("declared.")).then(|| format!("{folder}/{page}"))
-}
-
-/// Whether what it gives is worth keeping: it takes a search, or makes
-/// something.
-fn is_worth(written: &mut Expr) -> bool {
-    use Native::{AllBelow, AnyBelow, Append, Drop, Least, Tabulate, Take, Through};
-    match written {
-        Expr::Record(_) | Expr::Constant(Value::Data(_)) => true,
-        Expr::Native(AllBelow | AnyBelow | Append | Drop | Least | Tabulate | Take | Through) => {
-            true
-        }
-        _ => written.parts().into_iter().any(is_worth),
-    }
 }

@@ -1,6 +1,6 @@
 //! Mutants that are the same definition, and why: `equal.txt`.
 
-use crate::Mutant;
+use crate::{full, Mutant};
 use std::collections::HashSet;
 
 /// A reason begins with `#`; the mutants below it have it.
@@ -17,6 +17,6 @@ pub fn equal() -> HashSet<&'static str> {
 impl Mutant {
     /// As `equal.txt` lists it.
     pub fn line(&self) -> String {
-        format!("{}: {}", self.definition, self.change)
+        format!("{}: {}", full(self.definition), self.change)
     }
 }

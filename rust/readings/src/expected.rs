@@ -469,8 +469,12 @@ fn reported(answer: &ReportAnswer) -> String {
         ReportAnswer::Counts(counts) => match counts.share() {
             None => "NoPairs".to_string(),
             Some(share) => format!(
-                "Report {{{} {} {} {} {share:?}}}",
-                counts.conflicting, counts.mutual, counts.ordered, counts.racing
+                "Report {{{} {} {} {} {}}}",
+                counts.conflicting,
+                counts.mutual,
+                counts.ordered,
+                counts.racing,
+                share.to_bits(),
             ),
         },
         ReportAnswer::Check(CheckAnswer::Refused { number, row }) => {

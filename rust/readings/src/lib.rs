@@ -16,6 +16,7 @@ mod mutants;
 mod question;
 mod telling;
 mod trial;
+mod values;
 mod watch;
 
 pub use corpus::{case, fixed, Case};
@@ -24,6 +25,7 @@ pub use equal::equal;
 pub use mutants::{mutants, Mutant};
 pub use question::{Argument, Question, Readers, Told};
 pub use trial::Trial;
+pub use values::{full, numbers, told};
 
 use std::path::PathBuf;
 use std::thread;

@@ -2,17 +2,15 @@
 //! number one more or less, two arguments exchanged, a negation dropped, a case
 //! left out.
 
-use pages::{bound, outside, Clause, Expr, Found, Program, Word};
+use pages::{library, Clause, Definition, Expr, Found, Program, Ready, Value, Word};
 use std::collections::{HashMap, HashSet};
 
 /// A definition with one place changed.
-#[derive(Clone)]
 pub struct Mutant {
-    /// `crate/Page.name`
-    pub definition: String,
+    pub definition: &'static Definition,
     /// What was changed, as text.
     pub change: String,
-    pub clauses: Vec<Clause>,
+    pub ready: &'static Ready,
 }
 
 /// Definitions that stay the same where the argument at this place and the
@@ -52,33 +50,32 @@ struct Known {
 }
 
 /// Every mutant of these definitions.
-pub fn mutants(program: &mut Program, definitions: &[String]) -> Found<Vec<Mutant>> {
+pub fn mutants(program: &Program, definitions: &[&'static Definition]) -> Found<Vec<Mutant>> {
     let mut known = Known::default();
-    let mut all = Vec::new();
     for definition in definitions {
-        let (kind, clauses) = program.clauses(definition)?;
-        let mut kinds = types(&kind);
+        let mut kinds = types(&definition.kind);
         kinds.pop();
-        let name = definition.split_once('.').map_or("", |(_, name)| name);
-        let types = known.types.entry(name.to_string());
+        let types = known.types.entry(definition.name.to_string());
         let types = types.or_insert_with(|| kinds.clone());
         if *types != kinds {
             types.clear();
         }
-        if matches!(clauses[..], [(_, Expr::Number(0))]) {
-            known.zeros.insert(name.to_string());
+        if let [(_, body)] = &program.ready(definition)?.clauses[..] {
+            if number(body) == Some(0) {
+                known.zeros.insert(definition.name.to_string());
+            }
         }
-        all.push((definition, clauses));
     }
-    let found = all.into_iter().flat_map(|(definition, clauses)| {
-        let changes = changes(&clauses, &known);
-        changes.into_iter().map(|(change, clauses)| Mutant {
-            definition: definition.clone(),
+    let mut found = Vec::new();
+    for definition in definitions {
+        let changes = changes(&program.ready(definition)?.clauses, &known);
+        found.extend(changes.into_iter().map(|(change, clauses)| Mutant {
+            definition,
             change,
-            clauses,
-        })
-    });
-    Ok(found.collect())
+            ready: Ready::new(definition, clauses),
+        }));
+    }
+    Ok(found)
 }
 
 /// The types of a function's arguments, then that of its result.
@@ -93,6 +90,38 @@ fn types(words: &[Word]) -> Vec<String> {
         kinds.extend(types(rest));
     }
     kinds
+}
+
+/// The place of the first such word that stands in no parentheses; a
+/// parenthesis that closes stands outside.
+fn outside(words: &[Word], is_it: impl Fn(Word) -> bool) -> Option<usize> {
+    let mut depth = 0;
+    words.iter().position(|word| {
+        depth += i32::from(["(", "{"].contains(word));
+        depth -= i32::from([")", "}"].contains(word));
+        depth == 0 && is_it(word)
+    })
+}
+
+/// Each name of `(name .. : type) ..` with its type; those in braces are left
+/// out.
+fn bound(mut words: &[Word]) -> Vec<(Word, String)> {
+    let mut found = Vec::new();
+    while let [first, ..] = words {
+        let end = match *first {
+            "(" | "{" => outside(words, |word| word == ")" || word == "}").unwrap_or(0),
+            _ => 0,
+        };
+        let inside = &words[..end];
+        let colon = inside.iter().position(|word| *word == ":");
+        if let ("(", Some(colon)) = (*first, colon) {
+            let kind = inside[colon + 1..].join(" ");
+            let names = inside[1..colon].iter();
+            found.extend(names.map(|name| (*name, kind.clone())));
+        }
+        words = &words[end + 1..];
+    }
+    found
 }
 
 /// The clauses with one changed, or left out.
@@ -120,19 +149,21 @@ fn changed(written: &Expr, known: &Known) -> Vec<(String, Expr)> {
         .filter(|other| text(other) != text(written));
     let here = here.map(|other| (format!("{} -> {}", text(written), text(&other)), other));
     let mut all: Vec<(String, Expr)> = here.collect();
-    for (place, part) in written.clone().parts().into_iter().enumerate() {
+    for (place, part) in parts(&mut written.clone()).into_iter().enumerate() {
         let is_left = match written {
-            // What stands for a missing element isn't changed, nor a head.
-            Expr::Apply(head, _) => place > 0 && !(place == 3 && text(head) == "getD"),
-            // What nothing asks for could be anything.
-            Expr::Let(name, _, body) => place > 0 || mentions(body, name),
+            Expr::Apply(head, _) => match &**head {
+                // `let`: what nothing asks for could be anything.
+                Expr::Function(names, _, body) => place > 0 || mentions(body, names[0]),
+                // What stands for a missing element isn't changed, nor a head.
+                head => place > 0 && !(place == 3 && text(head) == "getD"),
+            },
             _ => true,
         };
         if is_left {
             let inside = changed(part, known).into_iter();
             all.extend(inside.map(|(change, part)| {
                 let mut whole = written.clone();
-                *whole.parts()[place] = part;
+                *parts(&mut whole)[place] = part;
                 (change, whole)
             }));
         }
@@ -142,23 +173,35 @@ fn changed(written: &Expr, known: &Known) -> Vec<(String, Expr)> {
 
 /// The changes of an expression's outermost part.
 fn here(written: &Expr, known: &Known) -> Vec<Expr> {
-    match written {
-        Expr::Number(0) => vec![Expr::Number(1)],
-        Expr::Number(number) => vec![Expr::Number(number + 1), Expr::Number(number - 1)],
-        Expr::Apply(head, arguments) => match &**head {
-            Expr::Name(name) => of_name(name, arguments, known),
-            _ => Vec::new(),
-        },
+    let constant = |number: u64| Expr::Constant(number.to_string().leak(), Value::Number(number));
+    match (written, number(written)) {
+        (_, Some(0)) => vec![constant(1)],
+        (_, Some(number)) => vec![constant(number + 1), constant(number - 1)],
+        (Expr::Apply(head, arguments), _) => of_head(head, arguments, known),
         _ => Vec::new(),
     }
 }
 
-fn of_name(name: Word, arguments: &[Expr], known: &Known) -> Vec<Expr> {
-    let other = |name: Word| Expr::Apply(Box::new(Expr::Name(name)), arguments.to_vec());
+/// A number that is written in digits.
+fn number(written: &Expr) -> Option<u64> {
+    match written {
+        Expr::Constant(word, Value::Number(_)) => word.parse().ok(),
+        _ => None,
+    }
+}
+
+fn of_head(head: &Expr, arguments: &[Expr], known: &Known) -> Vec<Expr> {
+    let Some(name) = name(head) else {
+        return Vec::new();
+    };
+    let other = |word: Word| {
+        let head = library(word).unwrap_or_else(|| panic!("{word} is not known"));
+        Expr::Apply(Box::new(head), arguments.to_vec())
+    };
     let swapped = |place: usize| {
         let mut arguments = arguments.to_vec();
         arguments.swap(place, place + 1);
-        Expr::Apply(Box::new(Expr::Name(name)), arguments)
+        Expr::Apply(Box::new(head.clone()), arguments)
     };
     let only = |place: usize| arguments[place].clone();
     match (name, arguments.len()) {
@@ -171,7 +214,7 @@ fn of_name(name: Word, arguments: &[Expr], known: &Known) -> Vec<Expr> {
         ("eqb", 2) if is_zero(&arguments[1], known) => vec![other("ltb")],
         ("eqb", 2) => vec![other("leb")],
         ("cond", 3) => vec![swapped(1), only(1), only(2)],
-        ("_+_", 2) if matches!(arguments[1], Expr::Number(0)) => Vec::new(),
+        ("_+_", 2) if number(&arguments[1]) == Some(0) => Vec::new(),
         ("_+_", 2) => vec![other("_-_"), only(0), only(1)],
         ("_-_", 2) => vec![other("_+_"), only(0)],
         ("_*_", 2) => vec![other("_+_")],
@@ -187,22 +230,38 @@ fn of_name(name: Word, arguments: &[Expr], known: &Known) -> Vec<Expr> {
     }
 }
 
+/// The expressions that it is made of.
+fn parts(written: &mut Expr) -> Vec<&mut Expr> {
+    match written {
+        Expr::Apply(head, arguments) => match &mut **head {
+            // A `let`'s value stands before its body.
+            Expr::Function(_, _, body) => arguments.iter_mut().chain([&mut **body]).collect(),
+            head => [head].into_iter().chain(arguments).collect(),
+        },
+        Expr::Record(fields) => fields.iter_mut().map(|(_, value)| value).collect(),
+        Expr::Field(part, _) | Expr::Function(_, _, part) => vec![part],
+        _ => Vec::new(),
+    }
+}
+
+/// The word of a name or a number.
+fn name(written: &Expr) -> Option<Word> {
+    match written {
+        Expr::Local(word, _) | Expr::Constant(word, _) | Expr::Defined(word, ..) => Some(word),
+        Expr::Native((word, ..)) | Expr::Constructor(word) => Some(word),
+        _ => None,
+    }
+}
+
 /// Whether a name occurs.
-fn mentions(written: &Expr, name: &str) -> bool {
-    matches!(written, Expr::Name(other) if *other == name)
-        || written
-            .clone()
-            .parts()
-            .into_iter()
-            .any(|part| mentions(part, name))
+fn mentions(written: &Expr, word: &str) -> bool {
+    let mut written = written.clone();
+    let mut inside = parts(&mut written).into_iter();
+    inside.any(|part| mentions(part, word)) || name(&written) == Some(word)
 }
 
 fn is_zero(written: &Expr, known: &Known) -> bool {
-    match written {
-        Expr::Number(number) => *number == 0,
-        Expr::Name(name) => known.zeros.contains(*name),
-        _ => false,
-    }
+    number(written) == Some(0) || name(written).is_some_and(|name| known.zeros.contains(name))
 }
 
 /// Whether two arguments, one after the other, have one type. A definition in
@@ -222,29 +281,32 @@ fn exchangeable(name: &str, place: usize, given: usize, known: &Known) -> bool {
 /// An expression as text, briefly.
 fn text(written: &Expr) -> String {
     match written {
-        Expr::Name(name) => name.to_string(),
-        Expr::Number(number) => number.to_string(),
         Expr::Apply(head, arguments) => {
             let parts: Vec<String> = arguments.iter().map(inner).collect();
-            match head.as_ref() {
-                Expr::Name(name) if parts.len() == 2 && name.starts_with('_') => {
+            match (&**head, name(head)) {
+                (Expr::Function(names, _, body), _) => {
+                    format!(
+                        "let {} = {} in {}",
+                        names[0],
+                        text(&arguments[0]),
+                        text(body)
+                    )
+                }
+                (_, Some(name)) if parts.len() == 2 && name.starts_with('_') => {
                     format!("{} {} {}", parts[0], name.trim_matches('_'), parts[1])
                 }
-                head => format!("{} {}", inner(head), parts.join(" ")),
+                _ => format!("{} {}", inner(head), parts.join(" ")),
             }
         }
         Expr::Field(of, name) => format!("{} .{name}", text(of)),
-        Expr::Let(name, value, body) => format!("let {name} = {} in {}", text(value), text(body)),
-        Expr::Function(names, body) => format!("λ {}. {}", names.join(" "), text(body)),
-        Expr::All(names, body) => format!("({} : ℕ) → {}", names.join(" "), text(body)),
-        // A definition's own expressions have names.
-        _ => "record".to_string(),
+        Expr::Function(names, _, body) => format!("λ {}. {}", names.join(" "), text(body)),
+        _ => name(written).unwrap_or("record").to_string(),
     }
 }
 
 fn inner(written: &Expr) -> String {
-    match written {
-        Expr::Name(_) | Expr::Number(_) => text(written),
-        _ => format!("({})", text(written)),
+    match name(written) {
+        Some(name) => name.to_string(),
+        None => format!("({})", text(written)),
     }
 }

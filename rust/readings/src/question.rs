@@ -1,10 +1,13 @@
 //! Questions, and both who answer them.
 
 use crate::contract::contracts;
+use crate::values::{full, numbers, told};
 use crate::{crates, expected, Case};
-use pages::{Evaluator, Found, Program, Value};
+use pages::{Definition, Evaluator, Found, Program, Value};
 use second::State;
+use std::cell::RefCell;
 use std::collections::{BTreeMap, HashMap};
+use std::rc::Rc;
 use std::{fmt, fs};
 use tables::hex;
 
@@ -61,8 +64,8 @@ impl Readers {
     pub fn new() -> Readers {
         let code = crates().join("stramashly/src/lib.rt");
         let (page, parts) = contracts(&fs::read_to_string(code).expect("the library's code"));
-        let mut program = Program::new(crates(), true);
-        program.add(LINKED, page);
+        let mut program = Program::new(crates());
+        program.add(LINKED, &page).expect("the pages");
         Readers {
             pages: Evaluator::new(program),
             second: State::new(),
@@ -87,29 +90,30 @@ impl Readers {
         let function = question.function;
         let given: Vec<Value> = question.arguments.iter().map(|a| self.value(a)).collect();
         if function.contains('/') {
-            let answer = self.pages.told(function, &given)?;
+            let answer = told(&mut self.pages, function, &given)?;
             return Ok(Told {
                 answer,
                 ..Told::default()
             });
         }
-        let mut told = Told::default();
+        let mut found = Told::default();
         for part in self.parts_of(function) {
             let definition = format!("{LINKED}.{function}:{part}");
             match part.as_str() {
-                "r" => told.answer = self.pages.told(&definition, &given)?,
+                "r" => found.answer = told(&mut self.pages, &definition, &given)?,
                 "share" => {
-                    let share: Result<f64, _> = self.pages.told(&definition, &given)?.parse();
-                    let share = share.expect("a number").to_bits();
-                    told.left.insert(part, vec![share]);
+                    let Value::Number(share) = self.pages.ask(&definition, &given)? else {
+                        return Err("no number".into());
+                    };
+                    found.left.insert(part, vec![share]);
                 }
                 _ => {
                     let numbers = self.numbers(&definition, &given)?;
-                    told.left.insert(part, numbers);
+                    found.left.insert(part, numbers);
                 }
             }
         }
-        Ok(told)
+        Ok(found)
     }
 
     fn parts_of(&self, function: &str) -> Vec<String> {
@@ -123,9 +127,12 @@ impl Readers {
     /// The numbers of a list.
     fn numbers(&mut self, definition: &str, given: &[Value]) -> Found<Vec<u64>> {
         let list = self.pages.ask(definition, given)?;
-        let number = |value: &Value| match self.pages.force(value)? {
-            Value::Number(number) => Ok(number),
-            _ => Err("no number".into()),
+        let number = |value: &Value| match value {
+            Value::Number(number) => Ok(*number),
+            later => match self.pages.force(later)? {
+                Value::Number(number) => Ok(number),
+                _ => Err("no number".into()),
+            },
         };
         list.parts().iter().map(number).collect()
     }
@@ -138,29 +145,33 @@ impl Readers {
         let value = match argument {
             Argument::Number(number) => Value::Number(*number),
             Argument::Truth(truth) => Value::Truth(*truth),
-            Argument::Bytes(bytes) => Value::numbers(bytes),
-            Argument::Halves(halves) => Value::numbers(halves),
-            Argument::Words(words) => Value::numbers(words),
-            Argument::Float(bits) => Value::Float(*bits),
-            Argument::Places(places) => {
-                Value::list(places.iter().map(|place| Value::numbers(place)).collect())
-            }
+            Argument::Bytes(bytes) => numbers(bytes),
+            Argument::Halves(halves) => numbers(halves),
+            Argument::Words(words) => numbers(words),
+            Argument::Float(bits) => Value::Number(*bits),
+            Argument::Places(places) => Value::list(places.iter().map(|place| numbers(place))),
         };
         self.values.insert(argument.clone(), value.clone());
         value
     }
 
     /// The definitions that the questions of these tables lead to.
-    pub fn definitions(&mut self, cases: &[Case]) -> Result<Vec<String>, String> {
+    pub fn definitions(&mut self, cases: &[Case]) -> Result<Vec<&'static Definition>, String> {
+        let called = Rc::new(RefCell::new(BTreeMap::new()));
+        let told = called.clone();
+        self.pages.watcher = Some(Box::new(move |definition, _, _| {
+            told.borrow_mut()
+                .entry(full(definition))
+                .or_insert(definition);
+        }));
         for case in cases {
             self.forget();
             for question in &case.questions {
                 self.compare(question)?;
             }
         }
-        let called = self.pages.program.called().map(str::to_string);
-        let mut called: Vec<String> = called.collect();
-        called.sort();
+        self.pages.watcher = None;
+        let called = called.borrow().values().copied().collect();
         Ok(called)
     }
 
@@ -174,7 +185,7 @@ impl Readers {
             Ok(told) => Err(format!("{question}\n{}", difference(&told, &expected))),
             Err(stop) => Err(format!(
                 "{question}\n{} instead of {}",
-                stop.0, expected.answer
+                stop, expected.answer
             )),
         }
     }

@@ -3,8 +3,9 @@
 
 use crate::watch::Watch;
 use crate::{Case, Mutant, Readers, Told};
-use pages::{Clause, Found};
+use pages::Found;
 use std::collections::hash_map::DefaultHasher;
+use std::collections::HashSet;
 use std::hash::{Hash, Hasher};
 
 /// Calls that a question of a mutant may take.
@@ -64,17 +65,14 @@ impl Trial {
 
     fn ask_together(&mut self, cases: Vec<Case>) -> Result<Vec<usize>, String> {
         let cases: Vec<Answered> = cases.into_iter().map(|case| self.answered(case)).collect();
-        let differing = self.differing(&cases).map_err(|stop| *stop.0)?;
+        let differing = self.differing(&cases).map_err(|stop| stop.to_string())?;
         let mut useful = Vec::new();
         let mut left = Vec::new();
         for (number, differs) in self.left.clone() {
             let places: Vec<usize> = (0..cases.len())
                 .filter(|at| differing[*at].contains(&number))
                 .collect();
-            match self
-                .told_apart_by(number, &cases, &places)
-                .map_err(|stop| *stop.0)?
-            {
+            match self.told_apart_by(number, &cases, &places) {
                 Some(place) => useful.push(place),
                 None => left.push((number, differs || !places.is_empty())),
             }
@@ -95,21 +93,17 @@ impl Trial {
     }
 
     /// For each table the mutants that give another value somewhere.
-    fn differing(&mut self, cases: &[Answered]) -> Found<Vec<Vec<usize>>> {
-        let others = self.left.iter().map(|(number, _)| {
-            let mutant = &self.mutants[*number];
-            (*number, mutant.definition.as_str(), &mutant.clauses[..])
-        });
-        let others: Vec<(usize, &str, &[Clause])> = others.collect();
-        let watch = Watch::begin(&mut self.readers.pages, &others)?;
+    fn differing(&mut self, cases: &[Answered]) -> Found<Vec<HashSet<usize>>> {
+        let left = self.left.iter();
+        let left = left.map(|(number, _)| (*number, &self.mutants[*number]));
+        let watch = Watch::begin(&mut self.readers.pages, left);
         let mut differing = Vec::new();
         for case in cases {
             if let Some(question) = first_difference(&mut self.readers, case)? {
                 let question = &case.case.questions[question];
                 return Err(format!("the pages differ: {question}").into());
             }
-            differing.push(watch.borrow_mut().differing());
-            watch.borrow_mut().forget();
+            differing.push(watch.differing(&mut self.readers.pages, &self.mutants));
         }
         self.readers.pages.watcher = None;
         Ok(differing)
@@ -120,27 +114,22 @@ impl Trial {
         number: usize,
         cases: &[Answered],
         places: &[usize],
-    ) -> Found<Option<usize>> {
+    ) -> Option<usize> {
         let Mutant {
-            definition,
-            clauses,
-            ..
-        } = &self.mutants[number];
+            definition, ready, ..
+        } = self.mutants[number];
         let usual = self.readers.pages.most_calls;
         self.readers.pages.most_calls = MOST_CALLS;
-        self.readers
-            .pages
-            .program
-            .replace(definition, Some(clauses.clone()))?;
+        let own = definition.ready.replace(Some(ready));
         // Where the pages stop, they differ too.
         let differs = |place: &&usize| {
             let found = first_difference(&mut self.readers, &cases[**place]);
             found.map_or(true, |question| question.is_some())
         };
         let found = places.iter().find(differs).copied();
-        self.readers.pages.program.replace(definition, None)?;
+        definition.ready.set(own);
         self.readers.pages.most_calls = usual;
-        Ok(found)
+        found
     }
 }
 

@@ -2,94 +2,104 @@
 //! given another value for some arguments. Where none would, the whole answer
 //! is the same with it.
 
-use pages::{Clause, Evaluator, Found, Pass, Ready, Value};
+use crate::values::same;
+use crate::Mutant;
+use pages::{Definition, Evaluator, Value};
 use std::cell::RefCell;
-use std::collections::HashMap;
+use std::collections::{HashMap, HashSet};
 use std::mem;
 use std::rc::Rc;
 
 /// Calls that another definition may take for one value.
 const MOST_CALLS: u64 = 200_000;
 
+type Call = (*const Definition, Rc<Vec<Value>>, Value);
+
+/// Calls of one table's questions.
+#[derive(Default)]
+struct Calls {
+    looked_at: Vec<Call>,
+    /// How often a definition was called, by whether it said no.
+    count: HashMap<(*const Definition, bool), usize>,
+}
+
 pub struct Watch {
-    /// By definition: the others, and whether each has differed.
-    others: HashMap<usize, Vec<(usize, &'static Ready, bool)>>,
-    /// How often a definition was called for one table, by whether it said no.
-    calls: HashMap<(usize, bool), usize>,
-    /// How many of a definition's first calls are looked at.
-    first: usize,
-    /// The evaluation of the others.
-    pass: Pass,
+    /// By definition: the numbers of its mutants.
+    mutants: HashMap<*const Definition, Vec<usize>>,
+    calls: Rc<RefCell<Calls>>,
 }
 
 impl Watch {
-    /// Looks at these definitions from now on, each with a number.
-    pub fn begin(
+    /// Looks at the definitions of these mutants from now on.
+    pub fn begin<'a>(
         pages: &mut Evaluator,
-        others: &[(usize, &str, &[Clause])],
-    ) -> Found<Rc<RefCell<Watch>>> {
-        let mut watch = Watch {
-            others: HashMap::new(),
-            calls: HashMap::new(),
-            first: if others.len() > 120 { 50 } else { 500 },
-            pass: Pass::default(),
-        };
-        for (number, definition, clauses) in others {
-            let id = pages.program.definition(definition);
-            let ready = pages.program.with_clauses(definition, clauses.to_vec())?;
-            let entry = watch.others.entry(id).or_default();
-            entry.push((*number, ready, false));
+        mutants: impl Iterator<Item = (usize, &'a Mutant)>,
+    ) -> Watch {
+        let mut by_definition: HashMap<_, Vec<usize>> = HashMap::new();
+        let mut total = 0;
+        for (number, mutant) in mutants {
+            let definition: *const Definition = mutant.definition;
+            by_definition.entry(definition).or_default().push(number);
+            total += 1;
         }
-        let watch = Rc::new(RefCell::new(watch));
-        let watching = watch.clone();
-        pages.watcher = Some(Rc::new(move |pages, id, given, value| {
-            watching.borrow_mut().look_at(pages, id, given, value);
+        let first = if total > 120 { 50 } else { 500 };
+        let watched: HashSet<*const Definition> = by_definition.keys().copied().collect();
+        let calls = Rc::new(RefCell::new(Calls::default()));
+        let told = calls.clone();
+        pages.watcher = Some(Box::new(move |definition, given, value| {
+            if watched.contains(&std::ptr::from_ref(definition)) {
+                told.borrow_mut().add(first, definition, given, value);
+            }
         }));
-        Ok(watch)
+        Watch {
+            mutants: by_definition,
+            calls,
+        }
     }
 
-    /// The numbers of those that have differed since they were asked for last.
-    pub fn differing(&mut self) -> Vec<usize> {
-        let mut found = Vec::new();
-        for (number, _, differs) in self.others.values_mut().flatten() {
-            if mem::take(differs) {
-                found.push(*number);
+    /// The numbers of those mutants that give another value in a call since
+    /// this was asked last.
+    pub fn differing(&self, pages: &mut Evaluator, mutants: &[Mutant]) -> HashSet<usize> {
+        let calls = mem::take(&mut *self.calls.borrow_mut());
+        let watcher = pages.watcher.take();
+        let most_calls = mem::replace(&mut pages.most_calls, MOST_CALLS);
+        let mut found = HashSet::new();
+        for (definition, given, value) in calls.looked_at {
+            for number in &self.mutants[&definition] {
+                if !found.contains(number) {
+                    let told = pages.run(mutants[*number].ready, &given);
+                    let is_same = told.and_then(|told| same(pages, &told, &value));
+                    if !is_same.unwrap_or(false) {
+                        found.insert(*number);
+                    }
+                }
             }
         }
+        pages.most_calls = most_calls;
+        pages.watcher = watcher;
         found
     }
+}
 
-    /// For the next table.
-    pub fn forget(&mut self) {
-        self.pass = Pass::default();
-        self.calls.clear();
-    }
-
+impl Calls {
     /// The first calls of a table, and some of the later ones.
-    fn is_looked_at(&mut self, id: usize, value: &Value) -> bool {
+    fn add(
+        &mut self,
+        first: usize,
+        definition: &Definition,
+        given: &Rc<Vec<Value>>,
+        value: &Value,
+    ) {
         let is_no = matches!(value, Value::Truth(false));
-        let calls = self.calls.entry((id, is_no)).or_default();
-        *calls += 1;
-        *calls < self.first
-            || calls.is_multiple_of(16) && *calls < 1000
-            || calls.is_multiple_of(100)
-    }
-
-    fn look_at(&mut self, pages: &mut Evaluator, id: usize, given: &[Value], value: &Value) {
-        if !self.others.contains_key(&id) || !self.is_looked_at(id, value) {
-            return;
+        let definition: *const Definition = definition;
+        let count = self.count.entry((definition, is_no)).or_default();
+        *count += 1;
+        let is_looked_at = *count < first
+            || count.is_multiple_of(16) && *count < 1000
+            || count.is_multiple_of(100);
+        if is_looked_at {
+            let call = (definition, given.clone(), value.clone());
+            self.looked_at.push(call);
         }
-        self.pass.is_beside = true;
-        mem::swap(&mut self.pass, &mut pages.pass);
-        let most_calls = mem::replace(&mut pages.most_calls, MOST_CALLS);
-        let others = self.others.get_mut(&id).into_iter().flatten();
-        for (_, ready, differs) in others.filter(|other| !other.2) {
-            (pages.pass.calls, pages.pass.depth) = (0, 0);
-            let told = pages.run(ready, given.to_vec());
-            let is_same = told.and_then(|told| pages.same(&told, value));
-            *differs = !is_same.unwrap_or(false);
-        }
-        pages.most_calls = most_calls;
-        mem::swap(&mut self.pass, &mut pages.pass);
     }
 }

@@ -2,8 +2,9 @@
 //! and a reader that steps through a table.
 
 use pages::{Evaluator, Program, Value};
-use readings::{crates, with_room};
+use readings::{crates, numbers, told, with_room};
 use second::{row_bytes, table::Row, RowsAnswer, State};
+use std::fs;
 use tables::{checkable, fillable, hosted, moved, Random, Size};
 
 const SMALL: Size = Size::of(2, 5);
@@ -20,9 +21,71 @@ step : List ℕ → ℕ → Step
 step s n = stepsOf (record { table = s; at = 0 }) n
 ";
 
+/// What a statement says, as a test; one about all numbers is asked about those
+/// below `bound`.
+const STATEMENTS: &str = "
+use mathlib.Core.Bool.{Bool, true, false}
+use lib.Dec.{ltb, eqb}
+use Rattle.finite.specs.Logic.{_and_, _or_}
+use Rattle.finite.specs.Below.{allBelow}
+infixr 0 _→_
+infixr 2 _⊎_
+infix 4 _≡_
+infix 50 _<_
+
+_→_ : Bool → Bool → Bool
+true → b = b
+false → b = true
+
+_⊎_ : Bool → Bool → Bool
+a ⊎ b = a or b
+
+_≡_ : ℕ → ℕ → Bool
+a ≡ b = eqb a b
+
+_<_ : ℕ → ℕ → Bool
+a < b = ltb a b
+
+Moved : ℕ → List ℕ → List ℕ → Renumbering → Bool
+Moved bound s s′ π = true";
+
+/// The statement that each number of these names has the rest.
+fn as_test(statement: &str) -> String {
+    let named = statement.strip_prefix('(');
+    let Some((names, rest)) = named.and_then(|rest| rest.split_once(" : ℕ) → ")) else {
+        return statement.to_string();
+    };
+    let names = names.split(' ').rev();
+    names.fold(rest.to_string(), |inner, name| {
+        format!("allBelow bound (λ {name}. {inner})")
+    })
+}
+
+/// The record `Moved` as a test that all of its statements hold.
+fn moved_as_test() -> String {
+    let page = fs::read_to_string(crates().join("model_page_order/specs/Moved.antt")).unwrap();
+    let (uses, record) = page.split_once("pub record Moved (s s′").unwrap();
+    // `_≡_`, `_<_` and `_⊎_` are those above.
+    let is_own = |line: &&str| line.starts_with("use Rattle") || line.starts_with("use lib");
+    let uses: Vec<&str> = uses.lines().filter(is_own).collect();
+    let lines = record
+        .lines()
+        .skip(1)
+        .filter(|line| !line.trim().starts_with("--"));
+    let fields = lines.collect::<Vec<&str>>().join(" ");
+    let fields = fields
+        .split("  pub ")
+        .filter_map(|field| field.split_once(" : "));
+    let tests = fields.map(|(_, statement)| format!(" and ({})", as_test(statement.trim())));
+    let tests: Vec<String> = tests.collect();
+    assert_eq!(tests.len(), 7, "statements of {page}");
+    format!("{}\n{STATEMENTS}{}", uses.join("\n"), tests.concat())
+}
+
 fn pages() -> Evaluator {
-    let mut program = Program::new(crates(), true);
-    program.add("alone/Own", OWN.to_string());
+    let mut program = Program::new(crates());
+    program.add("alone/Own", OWN).unwrap();
+    program.add("alone/Moved", &moved_as_test()).unwrap();
     Evaluator::new(program)
 }
 
@@ -66,15 +129,12 @@ fn is_moved(one: &[u8], two: &[u8], places: &[usize]) -> bool {
 /// Asks the page whether one table is the other with its rows moved.
 fn page_says(pages: &mut Evaluator, one: &[u8], two: &[u8], places: &[usize]) -> bool {
     pages.forget();
-    pages.bound = one.len() as u64 + 3;
-    let numbers: Vec<u64> = places.iter().map(|place| *place as u64).collect();
-    let places = Value::numbers(&numbers);
+    let bound = Value::Number(one.len() as u64 + 3);
+    let places: Vec<u64> = places.iter().map(|place| *place as u64).collect();
+    let places = numbers(&places);
     let renumbering = pages.ask("alone/Own.renumbering", &[places]).unwrap();
-    let arguments = [Value::numbers(one), Value::numbers(two), renumbering];
-    match pages
-        .ask("model_page_order/Moved.Moved", &arguments)
-        .unwrap()
-    {
+    let arguments = [bound, numbers(one), numbers(two), renumbering];
+    match pages.ask("alone/Moved.Moved", &arguments).unwrap() {
         Value::Truth(truth) => truth,
         _ => panic!("a statement without a truth"),
     }
@@ -142,10 +202,10 @@ fn readers_of_rows() {
                 continue;
             };
             pages.forget();
-            let table = Value::numbers(&table);
+            let table = numbers(&table);
             for step in 0..rows.len() + 3 {
                 let given = [table.clone(), Value::Number(step as u64)];
-                let told = pages.told("alone/Own.step", &given).unwrap();
+                let told = told(&mut pages, "alone/Own.step", &given).unwrap();
                 let row = rows.get(step).map(|bytes| said(Row::from_bytes(bytes)));
                 let expected = row.unwrap_or_else(|| "End".to_string());
                 assert_eq!(told, expected, "step {step}");

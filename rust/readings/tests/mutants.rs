@@ -10,7 +10,7 @@ fn tried() -> Result<(usize, Vec<String>), String> {
     let mut readers = Readers::new();
     let asked = readers.definitions(&fixed())?;
     let listed = equal();
-    let all = mutants(&mut readers.pages.program, &asked).map_err(|stop| *stop.0)?;
+    let all = mutants(&readers.pages.program, &asked).map_err(|stop| stop.to_string())?;
     let other = all
         .into_iter()
         .filter(|mutant| !listed.contains(&mutant.line()[..]));

@@ -2,8 +2,8 @@
 //! must give.
 
 use pages::{Evaluator, Program};
-use readings::{crates, with_room};
-use std::slice::from_ref;
+use readings::{crates, told, with_room};
+use std::slice;
 
 /// The lists of runs, and how many each has. The shares of `reports` are
 /// written as the prover writes numbers with a point, and the prover computes
@@ -36,8 +36,8 @@ fn differing(pages: &mut Evaluator, list: &str) -> (usize, Vec<String>) {
             panic!("{list}: no run at {place}");
         };
         let arguments = [ask.clone(), table.clone()];
-        let answer = pages.told("model_runs/Runs.answer", &arguments).unwrap();
-        let wanted = pages.told("runs/Own.itself", from_ref(gives)).unwrap();
+        let answer = told(pages, "model_runs/Runs.answer", &arguments).unwrap();
+        let wanted = told(pages, "runs/Own.itself", slice::from_ref(gives)).unwrap();
         if answer != wanted {
             differing.push(format!("{list} {place}: {answer}, not {wanted}"));
         }
@@ -49,8 +49,8 @@ fn differing(pages: &mut Evaluator, list: &str) -> (usize, Vec<String>) {
 #[test]
 fn each_gives_its_answer() {
     with_room(|| {
-        let mut program = Program::new(crates(), true);
-        program.add("runs/Own", OWN.to_string());
+        let mut program = Program::new(crates());
+        program.add("runs/Own", OWN).unwrap();
         let mut pages = Evaluator::new(program);
         for (list, count) in LISTS {
             assert_eq!(differing(&mut pages, list), (count, Vec::new()));

@@ -1,8 +1,8 @@
 //! Wrong definitions that the runs of crate `model` let pass: each is told
 //! apart.
 
-use pages::words;
-use readings::{fixed, with_room, Mutant, Readers, Trial};
+use pages::{words, Ready};
+use readings::{fixed, full, with_room, Mutant, Readers, Trial};
 
 /// The definition, and what it would wrongly be.
 const WRONG: [(&str, &str); 3] = [
@@ -30,18 +30,19 @@ fn left() -> Result<Vec<String>, String> {
     let mut mutants = Vec::new();
     for (definition, text) in WRONG {
         let program = &mut readers.pages.program;
-        let said = program
-            .clauses(definition)
-            .and_then(|_| program.clause(&words(text)));
+        let definition = program
+            .definition(definition)
+            .map_err(|stop| stop.to_string())?;
+        let clause = program.clause(definition, &words(text));
         mutants.push(Mutant {
-            definition: definition.to_string(),
+            definition,
             change: text.to_string(),
-            clauses: vec![said.map_err(|stop| *stop.0)?],
+            ready: Ready::new(definition, vec![clause.map_err(|stop| stop.to_string())?]),
         });
     }
     let mut trial = Trial::new(readers, mutants);
     trial.ask(fixed())?;
-    let left = trial.left().map(|(mutant, _)| mutant.definition.clone());
+    let left = trial.left().map(|(mutant, _)| full(mutant.definition));
     Ok(left.collect())
 }
 

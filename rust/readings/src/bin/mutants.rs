@@ -42,8 +42,8 @@ fn try_all(count: u64, every: usize, listed: bool) -> Result<bool, String> {
     let began = Instant::now();
     let mut readers = Readers::new();
     let asked = readers.definitions(&fixed())?;
-    let program = &mut readers.pages.program;
-    let all = mutants(program, &asked).map_err(|stop| *stop.0)?;
+    let program = &readers.pages.program;
+    let all = mutants(program, &asked).map_err(|stop| stop.to_string())?;
     println!("{} definitions, {} mutants", asked.len(), all.len());
     let equal = equal();
     let tried = all

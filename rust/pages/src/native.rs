@@ -31,66 +31,64 @@ pub fn library(word: Word) -> Option<Expr> {
 
 const OF_LIBRARY: &[Native] = &[
     ("suc", 1, |a| exact(a.number(0)?.checked_add(1))),
-    ("_+_", 2, |a| a.two(u64::checked_add)),
-    ("_*_", 2, |a| a.two(u64::checked_mul)),
-    ("_-_", 2, |a| a.two(|x, y| Some(x.saturating_sub(y)))),
-    ("_/_", 2, |a| a.two(|x, y| x.checked_div(y).or(Some(0)))),
-    ("_%_", 2, |a| a.two(|x, y| x.checked_rem(y).or(Some(x)))),
-    ("bitAnd", 2, |a| a.two(|x, y| Some(x & y))),
+    ("◌+◌", 2, |a| a.two(u64::checked_add)),
+    ("◌*◌", 2, |a| a.two(u64::checked_mul)),
+    ("◌-◌", 2, |a| a.two(|x, y| Some(x.saturating_sub(y)))),
+    ("◌/◌", 2, |a| a.two(|x, y| x.checked_div(y).or(Some(0)))),
+    ("◌%◌", 2, |a| a.two(|x, y| x.checked_rem(y).or(Some(x)))),
+    ("bit_and", 2, |a| a.two(|x, y| Some(x & y))),
     ("ltb", 2, |a| Ok(Truth(a.number(0)? < a.number(1)?))),
     ("leb", 2, |a| Ok(Truth(a.number(0)? <= a.number(1)?))),
     ("eqb", 2, |a| Ok(Truth(a.number(0)? == a.number(1)?))),
-    ("Bool·beq", 2, |a| Ok(Truth(a.truth(0)? == a.truth(1)?))),
+    ("beq", 2, |a| Ok(Truth(a.truth(0)? == a.truth(1)?))),
     ("not", 1, |a| Ok(Truth(!a.truth(0)?))),
     ("cond", 3, |a| match a.truth(0)? {
         true => a.value(1),
         false => a.value(2),
     }),
-    ("_∷_", 2, |a| {
+    ("◌∷◌", 2, |a| {
         list([a.value(0)?].iter().chain(&*a.list(1)?))
     }),
-    ("_++_", 2, |a| list(a.list(0)?.iter().chain(&*a.list(1)?))),
+    ("◌++◌", 2, |a| {
+        list(a.list(0)?.iter().chain(&*a.list(1)?))
+    }),
     ("length", 1, |a| Ok(Number(a.list(0)?.len() as u64))),
-    ("getD", 3, |a| match a.list(0)?.get(a.number(1)? as usize) {
+    ("get_or", 3, |a| match a.list(0)?.get(a.size(1)?) {
         Some(value) => a.pages.force(value),
         None => a.value(2),
     }),
     ("set", 3, |a| {
         let mut values = a.list(0)?.to_vec();
-        if let Some(value) = values.get_mut(a.number(1)? as usize) {
+        if let Some(value) = values.get_mut(a.size(1)?) {
             *value = a.value(2)?;
         }
         Ok(Value::list(values))
     }),
-    ("take", 2, |a| {
-        list(a.list(1)?.iter().take(a.number(0)? as usize))
-    }),
-    ("drop", 2, |a| {
-        list(a.list(1)?.iter().skip(a.number(0)? as usize))
-    }),
+    ("take", 2, |a| list(a.list(1)?.iter().take(a.size(0)?))),
+    ("drop", 2, |a| list(a.list(1)?.iter().skip(a.size(0)?))),
     ("replicate", 2, |a| {
-        Ok(Value::list(vec![a.value(1)?; a.number(0)? as usize]))
+        list(vec![a.value(1)?; a.size(0)?].iter())
     }),
     // The nearest number with a point to a fraction that isn't negative.
     ("round", 4, |a| {
-        Ok(Number(
-            (a.number(2)? as f64 / a.number(3)? as f64).to_bits(),
-        ))
+        let quotient = a.number(2)? as f64 / a.number(3)? as f64;
+        Ok(Number(quotient.to_bits()))
     }),
-    ("now", 1, |a| a.value(0)),
 ];
 
 /// Those of crate `finite`.
 pub const OF_FINITE: &[Native] = &[
-    ("_and_", 2, |a| Ok(Truth(a.truth(0)? && a.truth(1)?))),
-    ("_or_", 2, |a| Ok(Truth(a.truth(0)? || a.truth(1)?))),
-    ("anyBelow", 2, |a| Ok(Truth(a.find(true)? < a.number(0)?))),
-    ("allBelow", 2, |a| Ok(Truth(a.find(false)? == a.number(0)?))),
+    ("◌and◌", 2, |a| Ok(Truth(a.truth(0)? && a.truth(1)?))),
+    ("◌or◌", 2, |a| Ok(Truth(a.truth(0)? || a.truth(1)?))),
+    ("any_below", 2, |a| Ok(Truth(a.find(true)? < a.number(0)?))),
+    ("all_below", 2, |a| {
+        Ok(Truth(a.find(false)? == a.number(0)?))
+    }),
     ("least", 2, |a| Ok(Number(a.find(true)?))),
     ("tabulate", 2, |a| {
         let (function, count) = (a.value(0)?, a.number(1)?);
         let value = |at| a.pages.apply(function.clone(), vec![Number(at)]);
-        list((0..count).map(value).collect::<Found<Vec<Value>>>()?.iter())
+        Ok(List(Rc::new((0..count).map(value).collect::<Found<_>>()?)))
     }),
     ("through", 4, through),
 ];
@@ -147,6 +145,10 @@ impl Given<'_> {
         }
     }
 
+    fn size(&mut self, place: usize) -> Found<usize> {
+        Ok(self.number(place)? as usize)
+    }
+
     /// What is made of the first two numbers.
     fn two(&mut self, make: fn(u64, u64) -> Option<u64>) -> Found {
         exact(make(self.number(0)?, self.number(1)?))
@@ -167,12 +169,8 @@ impl Given<'_> {
     fn find(&mut self, wanted: bool) -> Found<u64> {
         let (bound, test) = (self.number(0)?, self.value(1)?);
         for number in 0..bound {
-            if self
-                .pages
-                .apply(test.clone(), vec![Number(number)])?
-                .truth()?
-                == wanted
-            {
+            let given = self.pages.apply(test.clone(), vec![Number(number)])?;
+            if given.truth()? == wanted {
                 return Ok(number);
             }
         }

@@ -9,7 +9,7 @@ use std::collections::{HashMap, HashSet};
 pub type Word = &'static str;
 
 /// The words of a line, without a comment. A dot ends a word where a space
-/// comes after it.
+/// comes after it; after a parenthesis it begins one.
 pub fn words(line: &str) -> Vec<Word> {
     let line = format!(" {line} ");
     let said = line.split(" -- ").next().unwrap_or_default();
@@ -81,7 +81,7 @@ impl Page {
                 ["use", path, ref names @ ..] => self.add_use(path, names),
                 [fix @ ("infixl" | "infixr" | "infix"), binds, ref names @ ..] => {
                     let binds = (binds.parse().unwrap_or(0), fix == "infixr");
-                    let entry = |name: &Word| (name.trim_matches('_'), (*name, binds.0, binds.1));
+                    let entry = |name: &Word| (name.trim_matches('◌'), (*name, binds.0, binds.1));
                     self.operators.extend(names.iter().map(entry));
                 }
                 ["module", _, ref head @ ..] => {
@@ -127,7 +127,7 @@ impl Page {
             self.last = name;
         } else if let Some(last) = self.definitions.get_mut(self.last) {
             let mut left = words.iter().take_while(|word| **word != "=");
-            if left.any(|word| *word == last.name.trim_matches('_')) {
+            if left.any(|word| *word == last.name.trim_matches('◌')) {
                 last.clauses.push(words);
             }
         }

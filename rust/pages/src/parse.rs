@@ -6,7 +6,7 @@ use crate::native::Native;
 use crate::page::{Definition, Word};
 use crate::program::Program;
 
-/// An expression. An operator is a name with a place at each side, as `_+_`.
+/// An expression. An operator is a name with a place at each side, as `◌+◌`.
 #[derive(Clone)]
 pub enum Expr {
     /// A place of the environment.
@@ -114,7 +114,7 @@ impl Parser<'_> {
         Ok(left)
     }
 
-    /// A head and what it is applied to; a field is of all before it.
+    /// A head and what it is applied to.
     fn application(&mut self) -> Found<Expr> {
         let mut head = self.atom()?;
         loop {
@@ -122,16 +122,12 @@ impl Parser<'_> {
             if ENDS.contains(&word) || self.program.operators.contains_key(word) {
                 return Ok(head);
             }
-            head = match (word.strip_prefix('.'), head) {
-                (Some(field), head) => {
-                    self.next();
-                    Expr::Field(Box::new(head), field)
-                }
-                (None, Expr::Apply(head, mut arguments)) => {
+            head = match head {
+                Expr::Apply(head, mut arguments) => {
                     arguments.push(self.atom()?);
                     Expr::Apply(head, arguments)
                 }
-                (None, head) => Expr::Apply(Box::new(head), vec![self.atom()?]),
+                head => Expr::Apply(Box::new(head), vec![self.atom()?]),
             };
         }
     }
@@ -141,7 +137,12 @@ impl Parser<'_> {
             "(" => {
                 let inside = self.expression(0)?;
                 self.expect(")")?;
-                Ok(inside)
+                let Some(fields) = self.peek().strip_prefix('.') else {
+                    return Ok(inside);
+                };
+                self.next();
+                let field = |of, name| Expr::Field(Box::new(of), name);
+                Ok(fields.split('.').fold(inside, field))
             }
             "record" => {
                 let mut fields = Vec::new();
@@ -171,7 +172,10 @@ impl Parser<'_> {
                 self.locals.push(word);
                 Ok(Expr::Local(word, self.locals.len() - 1))
             }
-            _ => Err(format!("{word} is not known").into()),
+            _ => match word.rsplit_once('.') {
+                Some((of, name)) => Ok(Expr::Field(Box::new(self.name(of)?), name)),
+                None => Err(format!("{word} is not known").into()),
+            },
         }
     }
 }
@@ -179,7 +183,7 @@ impl Parser<'_> {
 fn is_constructor(meaning: &Expr) -> bool {
     match meaning {
         Expr::Constant(..) | Expr::Constructor(_) => true,
-        Expr::Native((word, ..)) => ["suc", "_∷_"].contains(word),
+        Expr::Native((word, ..)) => ["suc", "◌∷◌"].contains(word),
         _ => false,
     }
 }

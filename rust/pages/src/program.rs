@@ -10,15 +10,13 @@ use std::path::PathBuf;
 
 /// The library's own operators; a page says those that it defines.
 const LIBRARY: Word = "
-infixl 65 _+_ _-_ _++_
-infixr 67 _∷_
-infixl 70 _*_ _/_ _%_
+infixl 65 ◌+◌ ◌-◌ ◌++◌
+infixr 67 ◌∷◌
+infixl 70 ◌*◌ ◌/◌ ◌%◌
 ";
 
 /// Words for a search, or by which something is made.
-const COSTLY: [Word; 9] = [
-    "anyBelow", "allBelow", "least", "tabulate", "through", "record", "++", "take", "drop",
-];
+const COSTLY: Word = "any_below all_below least tabulate through record ++ take drop";
 
 /// A definition that is ready to be called.
 pub struct Ready {
@@ -104,9 +102,10 @@ impl Program {
             None => (word, word),
         };
         let page = match self.pages[&definition.page].uses.get(used) {
-            Some(path) if path.ends_with("the-variants") => return Some(Expr::Constructor(name)),
+            Some(path) if path.ends_with("TheVariants") => return Some(Expr::Constructor(name)),
             Some(path) => page_of(path).unwrap_or_default(),
-            None => definition.page.clone(),
+            None if used == word => definition.page.clone(),
+            None => return None,
         };
         let there = self.pages.get(&page);
         let is_native = page.starts_with("finite/") && library(name).is_some();
@@ -134,11 +133,11 @@ impl Ready {
             Expr::Constant(_, value) => matches!(value, Value::Truth(_)),
             pattern => matches!(pattern, Expr::Constructor(_)),
         };
-        let is_strict = !clauses
-            .iter()
-            .any(|(patterns, _)| patterns.iter().any(asks));
+        let mut patterns = clauses.iter().flat_map(|(patterns, _)| patterns);
+        let is_strict = !patterns.any(asks);
         let words = definition.clauses.concat();
-        let is_worth = words.len() > 16 || words.iter().any(|word| COSTLY.contains(word));
+        let mut costly = COSTLY.split(' ');
+        let is_worth = words.len() > 16 || costly.any(|word| words.contains(&word));
         Box::leak(Box::new(Ready {
             arity,
             clauses,
@@ -149,10 +148,8 @@ impl Ready {
     }
 }
 
-/// The page of a path, unless it is the library's or the compiler's own.
+/// The page of a path, unless it is the kit's or the compiler's own.
 fn page_of(path: &str) -> Option<String> {
-    let (name, rest) = path.strip_prefix("Rattle·")?.split_once('.')?;
-    let page = rest.strip_prefix("specs.")?;
-    let folder = name.strip_suffix("·specs").unwrap_or(name);
-    (!page.starts_with("declared.")).then(|| format!("{folder}/{page}"))
+    let (name, page) = path.strip_prefix("Rattle.")?.split_once(".specs.")?;
+    (name != "std" && !page.starts_with("declared.")).then(|| format!("{name}/{page}"))
 }

@@ -6,34 +6,30 @@ use std::path::{Path, PathBuf};
 use std::{env, fs, process};
 
 const SMALL: &str = "
-use mathlib.Core.Bool.{Bool}
-use mathlib.Core.List.{List}
-use Prim.Native.Nat.{ℕ, _+_, _*_}
-use lib.ListN.{getD}
-use lib.Dec.{eqb}
-use Rattle·finite.specs.Logic.{_and_, _or_}
-use Rattle·finite.specs.Below.{anyBelow, allBelow, least}
-use Rattle·finite.specs.Lists.{tabulate}
-use Rattle·finite.specs.Closure.{through}
-use Rattle·finite.specs.Walk.{walk}
+use Rattle.std.specs.Prelude.{Bool, List, ℕ, ◌+◌, ◌*◌, get_or, eqb}
+use Rattle.finite.specs.Logic.{◌and◌, ◌or◌}
+use Rattle.finite.specs.Below.{any_below, all_below, least}
+use Rattle.finite.specs.Lists.{tabulate}
+use Rattle.finite.specs.Closure.{through}
+use Rattle.finite.specs.Walk.{walk}
 
 passes : List ℕ → ℕ → Bool
-passes l k = eqb (getD l k 0) 1
+passes l k = eqb (get_or l k 0) 1
 
 related : List ℕ → ℕ → ℕ → Bool
-related l i j = eqb (getD l (i * 5 + j) 0) 1
+related l i j = eqb (get_or l (i * 5 + j) 0) 1
 
 logic : List ℕ → Bool
 logic l = passes l 0 and passes l 1 or passes l 2 and (passes l 3 or passes l 4)
 
 below : List ℕ → ℕ → List ℕ
-below l n = tabulate (λ k. getD l (k + least n (passes l)) 7) n
+below l n = tabulate (λ k. get_or l (k + least n (passes l)) 7) n
 
 some : List ℕ → ℕ → Bool
-some l n = anyBelow n (passes l)
+some l n = any_below n (passes l)
 
 all : List ℕ → ℕ → Bool
-all l n = allBelow n (passes l)
+all l n = all_below n (passes l)
 
 lowest : List ℕ → ℕ → ℕ
 lowest l n = least n (passes l)
@@ -50,7 +46,7 @@ walked l n x k z = walk n (related l) x k z
 fn crates(name: &str) -> PathBuf {
     // Not below the repository, where every page must belong to a crate.
     let folder = env::temp_dir().join(format!("stramashly-natives-{name}-{}", process::id()));
-    let renamed = |text: &str| text.replace("Rattle·finite", &format!("Rattle·{name}"));
+    let renamed = |text: &str| text.replace("Rattle.finite", &format!("Rattle.{name}"));
     let pages = folder.join(format!("{name}/specs"));
     fs::create_dir_all(&pages).unwrap();
     fs::create_dir_all(folder.join("small/specs")).unwrap();
@@ -87,7 +83,7 @@ impl Numbers {
 #[test]
 fn every_native_is_tried() {
     for (word, ..) in OF_FINITE {
-        let word = word.trim_matches('_');
+        let word = word.trim_matches('◌');
         assert!(
             SMALL
                 .split_whitespace()

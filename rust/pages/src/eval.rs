@@ -137,6 +137,8 @@ impl Evaluator {
                 let fields = fields.iter().map(|(_, field)| delay(field, env));
                 Ok(Value::function(code, fields.collect()))
             }
+            // What is borrowed stands for itself.
+            Expr::Field(of, "now") => self.eval(of, env),
             Expr::Field(of, name) => {
                 let Value::Function(record) = self.eval(of, env)? else {
                     return Err("a field of no record".into());

@@ -88,7 +88,7 @@ pub const OF_FINITE: &[Native] = &[
     ("tabulate", 2, |a| {
         let (function, count) = (a.value(0)?, a.number(1)?);
         let value = |at| a.pages.apply(function.clone(), vec![Number(at)]);
-        Ok(List(Rc::new((0..count).map(value).collect::<Found<_>>()?)))
+        list((0..count).map(value).collect::<Found<Vec<Value>>>()?.iter())
     }),
     ("through", 4, through),
 ];

@@ -137,12 +137,9 @@ impl Parser<'_> {
             "(" => {
                 let inside = self.expression(0)?;
                 self.expect(")")?;
-                let Some(fields) = self.peek().strip_prefix('.') else {
-                    return Ok(inside);
-                };
-                self.next();
+                let fields = self.peek().strip_prefix('.').map_or("", |_| self.next());
                 let field = |of, name| Expr::Field(Box::new(of), name);
-                Ok(fields.split('.').fold(inside, field))
+                Ok(fields.split('.').skip(1).fold(inside, field))
             }
             "record" => {
                 let mut fields = Vec::new();

@@ -104,8 +104,9 @@ impl Program {
         let page = match self.pages[&definition.page].uses.get(used) {
             Some(path) if path.ends_with("TheVariants") => return Some(Expr::Constructor(name)),
             Some(path) => page_of(path).unwrap_or_default(),
-            None if used == word => definition.page.clone(),
-            None => return None,
+            // A field of a value; before a constructor there may be its type.
+            None if used != word && !word.starts_with(char::is_uppercase) => return None,
+            None => definition.page.clone(),
         };
         let there = self.pages.get(&page);
         let is_native = page.starts_with("finite/") && library(name).is_some();

@@ -3,7 +3,8 @@
 
 const EXPORTED: &str = "pub extern \"C\" fn ";
 
-/// The page's text, and the names of its definitions. The answer is part `r`.
+/// The page's text, and the names of its definitions. The answer is part
+/// `result`.
 pub fn contracts(code: &str) -> (String, Vec<String>) {
     let uses = code.lines().filter_map(|line| line.strip_prefix("ghost "));
     let uses = uses.filter(|line| line.starts_with("use "));
@@ -12,14 +13,14 @@ pub fn contracts(code: &str) -> (String, Vec<String>) {
         .collect();
     let mut names = Vec::new();
     for text in code.split(EXPORTED).skip(1) {
-        let (head, rest) = text.split_once("ensures {").unwrap_or((text, ""));
+        let end = text.find("\n{").unwrap_or(text.len());
+        let (head, clauses) = text[..end].split_once(" ensures ").unwrap_or((text, ""));
         let (name, arguments) = head.split_once('(').unwrap_or((head, ""));
         let name = name.split_once('<').map_or(name, |(name, _)| name);
         let arguments = arguments.lines().flat_map(|line| line.split(", "));
         let arguments = arguments.filter_map(|part| part.trim().split_once(": "));
         let arguments: Vec<&str> = arguments.map(|(argument, _)| argument).collect();
-        let end = rest.find("\n{").unwrap_or(rest.len());
-        for (part, value) in parts(&rest[..end].replace(" .entry", "")) {
+        for (part, value) in clauses.split(" ensures ").flat_map(parts) {
             let full = format!("{name}:{part}");
             page += &format!("{full} : Part\n{full} {} = {value}\n", arguments.join(" "));
             names.push(full);
@@ -28,16 +29,17 @@ pub fn contracts(code: &str) -> (String, Vec<String>) {
     (page, names)
 }
 
-/// Of `λ r. let .. in ⌜ (r ≡ ..) × (now (buffer .exit) ≡ ..) ⌝ }` each name
-/// before a `≡` with what is after it.
-fn parts(text: &str) -> Vec<(String, String)> {
-    let text = text.replace('\n', " ");
-    let inside = text.split_once('⌜').and_then(|(before, rest)| {
-        let (_, before) = before.split_once("λ r.")?;
-        Some((before, rest.split_once('⌝')?.0))
-    });
-    let Some((before, inside)) = inside else {
-        return Vec::new();
+/// Of `{ let .. in (result ≡ ..) × (buffer.new ≡ ..) }`, with or without a name
+/// before it, each name before a `≡` with what is after it.
+fn parts(clause: &str) -> Vec<(String, String)> {
+    let text = clause.replace('\n', " ");
+    // Of a lent buffer all but the part's own name is what it held before.
+    let text = text.replace(".old", "").replace(".now", "");
+    let inside = text.split_once('{').map_or("", |(_, rest)| rest);
+    let inside = inside.rsplit_once('}').map_or("", |(inside, _)| inside);
+    let (before, inside) = match inside.rfind(" in ") {
+        Some(end) => inside.split_at(end + 4),
+        None => ("", inside),
     };
     let mut found = Vec::new();
     for part in split(inside, '×') {
@@ -49,9 +51,8 @@ fn parts(text: &str) -> Vec<(String, String)> {
         let [left, right] = split(part, '≡')[..] else {
             continue;
         };
-        let words = left.split(|letter: char| " ()".contains(letter));
-        let name = words.into_iter().find(|word| !["", "now"].contains(word));
-        found.push((name.unwrap_or("").to_string(), format!("{before} {right}")));
+        let name = left.trim().trim_end_matches(".new");
+        found.push((name.to_string(), format!("{before}{right}")));
     }
     found
 }

@@ -16,26 +16,26 @@ pub struct Mutant {
 /// Definitions that stay the same where the argument at this place and the
 /// next are exchanged.
 const SYMMETRIC: [(&str, usize); 21] = [
-    ("Bool·beq", 0),
+    ("beq", 0),
     ("agree", 2),
     ("apart", 1),
     ("clash", 0),
     ("common", 0),
     ("conflict", 1),
     ("meets", 0),
-    ("mutualRows", 1),
+    ("mutual_rows", 1),
     ("mutually", 1),
-    ("oneInstance", 2),
-    ("orderedAt", 1),
+    ("one_instance", 2),
+    ("ordered_at", 1),
     ("overlap", 0),
     ("races", 1),
-    ("sameAgent", 1),
-    ("sameInstance", 0),
-    ("sameLocation", 0),
-    ("sameReference", 0),
+    ("same_agent", 1),
+    ("same_instance", 0),
+    ("same_location", 0),
+    ("same_reference", 0),
     ("shares", 2),
     ("together", 1),
-    ("twoMoments", 1),
+    ("two_moments", 1),
     ("unordered", 1),
 ];
 
@@ -155,7 +155,7 @@ fn changed(written: &Expr, known: &Known) -> Vec<(String, Expr)> {
                 // `let`: what nothing asks for could be anything.
                 Expr::Function(names, _, body) => place > 0 || mentions(body, names[0]),
                 // What stands for a missing element isn't changed, nor a head.
-                head => place > 0 && !(place == 3 && text(head) == "getD"),
+                head => place > 0 && !(place == 3 && text(head) == "get_or"),
             },
             _ => true,
         };
@@ -205,8 +205,8 @@ fn of_head(head: &Expr, arguments: &[Expr], known: &Known) -> Vec<Expr> {
     };
     let only = |place: usize| arguments[place].clone();
     match (name, arguments.len()) {
-        ("_and_", 2) => vec![other("_or_"), only(0), only(1)],
-        ("_or_", 2) => vec![other("_and_"), only(0), only(1)],
+        ("◌and◌", 2) => vec![other("◌or◌"), only(0), only(1)],
+        ("◌or◌", 2) => vec![other("◌and◌"), only(0), only(1)],
         ("not" | "suc", 1) => vec![only(0)],
         ("ltb", 2) => vec![other("leb"), swapped(0)],
         ("leb", 2) => vec![other("ltb"), swapped(0)],
@@ -214,13 +214,13 @@ fn of_head(head: &Expr, arguments: &[Expr], known: &Known) -> Vec<Expr> {
         ("eqb", 2) if is_zero(&arguments[1], known) => vec![other("ltb")],
         ("eqb", 2) => vec![other("leb")],
         ("cond", 3) => vec![swapped(1), only(1), only(2)],
-        ("_+_", 2) if number(&arguments[1]) == Some(0) => Vec::new(),
-        ("_+_", 2) => vec![other("_-_"), only(0), only(1)],
-        ("_-_", 2) => vec![other("_+_"), only(0)],
-        ("_*_", 2) => vec![other("_+_")],
-        ("_/_", 2) => vec![other("_%_"), only(0)],
-        ("_%_", 2) => vec![other("_/_"), only(0)],
-        ("_++_", 2) => vec![swapped(0), only(0), only(1)],
+        ("◌+◌", 2) if number(&arguments[1]) == Some(0) => Vec::new(),
+        ("◌+◌", 2) => vec![other("◌-◌"), only(0), only(1)],
+        ("◌-◌", 2) => vec![other("◌+◌"), only(0)],
+        ("◌*◌", 2) => vec![other("◌+◌")],
+        ("◌/◌", 2) => vec![other("◌%◌"), only(0)],
+        ("◌%◌", 2) => vec![other("◌/◌"), only(0)],
+        ("◌++◌", 2) => vec![swapped(0), only(0), only(1)],
         _ => {
             let last = name.rsplit('.').next().unwrap_or(name);
             let places = 0..arguments.len().saturating_sub(1);
@@ -292,21 +292,21 @@ fn text(written: &Expr) -> String {
                         text(body)
                     )
                 }
-                (_, Some(name)) if parts.len() == 2 && name.starts_with('_') => {
-                    format!("{} {} {}", parts[0], name.trim_matches('_'), parts[1])
+                (_, Some(name)) if parts.len() == 2 && name.starts_with('◌') => {
+                    format!("{} {} {}", parts[0], name.trim_matches('◌'), parts[1])
                 }
                 _ => format!("{} {}", inner(head), parts.join(" ")),
             }
         }
-        Expr::Field(of, name) => format!("{} .{name}", text(of)),
+        Expr::Field(of, name) => format!("{}.{name}", inner(of)),
         Expr::Function(names, _, body) => format!("λ {}. {}", names.join(" "), text(body)),
         _ => name(written).unwrap_or("record").to_string(),
     }
 }
 
 fn inner(written: &Expr) -> String {
-    match name(written) {
-        Some(name) => name.to_string(),
-        None => format!("({})", text(written)),
+    match (written, name(written)) {
+        (_, None) if !matches!(written, Expr::Field(..)) => format!("({})", text(written)),
+        _ => text(written),
     }
 }

@@ -17,12 +17,12 @@ pub const LINKED: &str = "stramashly/contracts";
 /// Definitions that no linked function leads to, or whose answer it packs so
 /// that a part is lost.
 pub const REPORT: &str = "model/Report.report";
-pub const ROW_PART: &str = "door_pieces/Pieces.rowPart";
-pub const COUNT_BOTH: &str = "door_pieces/Pieces.countBoth";
-pub const LOWEST_SHARED: &str = "model/Row.lowestShared";
+pub const ROW_PART: &str = "door_pieces/Pieces.row_part";
+pub const COUNT_BOTH: &str = "door_pieces/Pieces.count_both";
+pub const LOWEST_SHARED: &str = "model/Row.lowest_shared";
 pub const SHARES: &str = "model/Scope.shares";
-pub const READ_ENTRIES: &str = "door_write/Encode.entriesOf";
-pub const READ_DEPENDENCIES: &str = "door_write/Encode.dependenciesOf";
+pub const READ_ENTRIES: &str = "door_write/Encode.entries_of";
+pub const READ_DEPENDENCIES: &str = "door_write/Encode.dependencies_of";
 
 #[derive(Clone, Debug, PartialEq, Eq, Hash)]
 pub enum Argument {
@@ -62,7 +62,12 @@ pub struct Readers {
 
 impl Readers {
     pub fn new() -> Readers {
-        let code = crates().join("stramashly/src/lib.rt");
+        let code =
+            ["stramashly_c", "stramashly"].map(|name| crates().join(name).join("src/lib.rt"));
+        let code = code
+            .into_iter()
+            .find(|file| file.exists())
+            .expect("the library's code");
         let (page, parts) = contracts(&fs::read_to_string(code).expect("the library's code"));
         let mut program = Program::new(crates());
         program.add(LINKED, &page).expect("the pages");
@@ -100,7 +105,7 @@ impl Readers {
         for part in self.parts_of(function) {
             let definition = format!("{LINKED}.{function}:{part}");
             match part.as_str() {
-                "r" => found.answer = told(&mut self.pages, &definition, &given)?,
+                "result" => found.answer = told(&mut self.pages, &definition, &given)?,
                 "share" => {
                     let Value::Number(share) = self.pages.ask(&definition, &given)? else {
                         return Err("no number".into());

@@ -11,43 +11,42 @@ const SMALL: Size = Size::of(2, 5);
 
 /// What the questions here are put together with.
 const OWN: &str = "
-use lib.ListN.{getD}
-use Rattle·door_step.specs.Steps.{stepsOf}
+use Rattle.std.specs.Prelude.{get_or}
+use Rattle.door_step.specs.Steps.{steps_of}
 
 renumbering : List ℕ → Renumbering
-renumbering places = record { to = λ k. getD places k k }
+renumbering places = record { to = λ k. get_or places k k }
 
 step : List ℕ → ℕ → Step
-step s n = stepsOf (record { table = s; at = 0 }) n
+step s n = steps_of (record { table = s; at = 0 }) n
 ";
 
 /// What a statement says, as a test; one about all numbers is asked about those
 /// below `bound`.
 const STATEMENTS: &str = "
-use mathlib.Core.Bool.{Bool, true, false}
-use lib.Dec.{ltb, eqb}
-use Rattle·finite.specs.Logic.{_and_, _or_}
-use Rattle·finite.specs.Below.{allBelow}
-infixr 0 _→_
-infixr 2 _⊎_
-infix 4 _≡_
-infix 50 _<_
+use Rattle.std.specs.Prelude.{Bool, true, false, ltb, eqb}
+use Rattle.finite.specs.Logic.{◌and◌, ◌or◌}
+use Rattle.finite.specs.Below.{all_below}
+infixr 0 ◌→◌
+infixr 2 ◌⊎◌
+infix 4 ◌≡◌
+infix 50 ◌<◌
 
-_→_ : Bool → Bool → Bool
+◌→◌ : Bool → Bool → Bool
 true → b = b
 false → b = true
 
-_⊎_ : Bool → Bool → Bool
+◌⊎◌ : Bool → Bool → Bool
 a ⊎ b = a or b
 
-_≡_ : ℕ → ℕ → Bool
+◌≡◌ : ℕ → ℕ → Bool
 a ≡ b = eqb a b
 
-_<_ : ℕ → ℕ → Bool
+◌<◌ : ℕ → ℕ → Bool
 a < b = ltb a b
 
 Moved : ℕ → List ℕ → List ℕ → Renumbering → Bool
-Moved bound s s′ π = true";
+Moved bound s s' π = true";
 
 /// The statement that each number of these names has the rest.
 fn as_test(statement: &str) -> String {
@@ -57,16 +56,17 @@ fn as_test(statement: &str) -> String {
     };
     let names = names.split(' ').rev();
     names.fold(rest.to_string(), |inner, name| {
-        format!("allBelow bound (λ {name}. {inner})")
+        format!("all_below bound (λ {name}. {inner})")
     })
 }
 
 /// The record `Moved` as a test that all of its statements hold.
 fn moved_as_test() -> String {
     let page = fs::read_to_string(crates().join("model_page_order/specs/Moved.antt")).unwrap();
-    let (uses, record) = page.split_once("pub record Moved (s s′").unwrap();
-    // `_≡_`, `_<_` and `_⊎_` are those above.
-    let is_own = |line: &&str| line.starts_with("use Rattle") || line.starts_with("use lib");
+    let (uses, record) = page.split_once("pub record Moved (s s'").unwrap();
+    // The words of the kit are those above, and those that are known without a page.
+    let is_own =
+        |line: &&str| line.starts_with("use Rattle") && !line.starts_with("use Rattle.std.");
     let uses: Vec<&str> = uses.lines().filter(is_own).collect();
     let lines = record
         .lines()

@@ -17,7 +17,7 @@ const LISTS: [(&str, usize); 9] = [
     ("ChainRuns.chained", 12),
     ("OrderRuns.stales", 1),
     ("OrderRuns.blanks", 2),
-    ("OrderRuns.classSets", 4),
+    ("OrderRuns.class_sets", 4),
 ];
 
 /// So that a value is told as an answer is.

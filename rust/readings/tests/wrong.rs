@@ -9,18 +9,18 @@ const WRONG: [(&str, &str); 3] = [
     // A race is told before an overwritten read.
     (
         "model/Check.verdict",
-        "verdict t source = cyclicOr (raceOr race (overwrittenOr raceFree t source) t) t source",
+        "verdict t source = cyclic_or (race_or race (overwritten_or race_free t source) t) t source",
     ),
     // A filled table need not be consistent.
     (
-        "model/Fill.filledOr",
-        "filledOr next t source = cond (sourcesFit t source) (filled (tabulate source (t .rows))) next",
+        "model/Fill.filled_or",
+        "filled_or next t source = cond (sources_fit t source) (filled (tabulate source t.rows)) next",
     ),
     // A derivation may be for a class set that there is not.
     (
-        "model/Reason.chainHolds",
-        "chainHolds s m k steps = ltb 0 (length steps) and leb (length steps) STEPS \
-         and eqb (stands m steps (length steps)) k and not (anyBelow (length steps) (broken s m steps))",
+        "model/Reason.chain_holds",
+        "chain_holds s m k steps = ltb 0 (length steps) and leb (length steps) STEPS \
+         and eqb (stands m steps (length steps)) k and not (any_below (length steps) (broken s m steps))",
     ),
 ];
 

@@ -67,7 +67,7 @@ impl Sources {
     fn add(&mut self, path: &Path) {
         let name = path.file_name().unwrap_or_default().to_string_lossy();
         if path.is_dir() {
-            if name != "target" {
+            if !["target", "out"].contains(&&*name) {
                 self.names.insert(name.into_owned());
                 let entries = fs::read_dir(path).unwrap();
                 entries.for_each(|entry| self.add(&entry.unwrap().path()));
@@ -220,7 +220,7 @@ fn a_name_that_nothing_has_is_missed() {
         "admission",
         "check::check_by",
         "door_write/specs/Promise",
-        "written-…",
+        "written_…",
     ] {
         assert!(is_name(name) && sources.has_span(name), "{name}");
     }
@@ -228,7 +228,7 @@ fn a_name_that_nothing_has_is_missed() {
         "admissions",
         "check::check_of",
         "door_write/specs/Promises",
-        "wrote-…",
+        "wrote_…",
     ] {
         assert!(is_name(name) && !sources.has_span(name), "{name}");
     }

@@ -1,6 +1,6 @@
 /* Stramashly: a race checker for recorded runs of a graphics device.
  *
- * Link with libstramashly.a (made by `rt staticlib stramashly`).
+ * Link with libstramashly.a (made by `tools/library`).
  *
  * Each function judges one table of bytes, laid out as docs/FORMAT.md says, by
  * the rules of docs/RULES.md. The answer and what the buffers hold afterwards

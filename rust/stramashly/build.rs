@@ -11,14 +11,14 @@ fn main() {
     if !archive.is_file() {
         // A linker's message would not say what to do about it.
         eprintln!("{} is missing", archive.display());
-        eprintln!("make it with `rt staticlib stramashly`, or set STRAMASHLY_LIB_DIR");
+        eprintln!("make it with `tools/library`, or set STRAMASHLY_LIB_DIR");
         std::process::exit(1);
     }
     println!("cargo:rustc-link-search=native={}", folder.display());
     println!("cargo:rustc-link-lib=static=stramashly");
 }
 
-/// The folder that is asked for, else the one that `rt staticlib` writes to.
+/// The folder that is asked for, else the one that `tools/library` writes to.
 fn library_folder() -> PathBuf {
     match env::var_os("STRAMASHLY_LIB_DIR") {
         Some(folder) => PathBuf::from(folder),

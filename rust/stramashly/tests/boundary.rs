@@ -1,6 +1,7 @@
 //! The C boundary as the library's own source has it: the exported functions of
-//! `crates/stramashly` and the limits of `crates/model` are read there, and the
-//! header, this crate's declarations and the Python module are held to them.
+//! `crates/stramashly_c`, the codes of `crates/stramashly` and the limits of
+//! `crates/model` are read there, and the header, this crate's declarations and
+//! the Python module are held to them.
 
 use std::collections::{BTreeMap, BTreeSet};
 use std::fs;
@@ -20,7 +21,9 @@ fn read(file: impl AsRef<Path>) -> String {
 }
 
 fn source() -> String {
-    read("crates/stramashly/src/lib.rt")
+    let linked = Path::new("crates/stramashly_c/src/lib.rt");
+    let linked = repository().join(linked).exists().then(|| read(linked));
+    read("crates/stramashly/src/lib.rt") + &linked.unwrap_or_default()
 }
 
 /// The text without `//` comments, its lines joined.

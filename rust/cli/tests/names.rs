@@ -7,7 +7,7 @@ use std::path::{Path, PathBuf};
 
 /// Names of others: Vulkan's, SPIR-V's, Rust's, the prover's, and those of
 /// programs.
-const FOREIGN: [&str; 17] = [
+const FOREIGN: [&str; 16] = [
     "appendices/memorymodel.adoc",
     "6666fa32b8da…",
     "vulkanMemoryModelAvailabilityVisibilityChains",
@@ -22,7 +22,6 @@ const FOREIGN: [&str; 17] = [
     "non_exhaustive",
     "refl",
     "requires",
-    "tie.spec",
     "cargo",
     "libstramashly.so.0.2",
 ];

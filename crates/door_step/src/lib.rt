@@ -19,14 +19,14 @@ pub struct Opened<'a> {
     pub reader: RowReader<'a>,
 }
 
-#[derive(Drop)]
+#[derive(Clone, Copy)]
 pub enum Step {
     Row { row: Row, source: Source },
     End,
 }
 
 // What a step from a place comes to: the table's refusal, the row there and the next place, or the end and its place.
-#[derive(Drop)]
+#[derive(Clone, Copy)]
 pub enum Stepped {
     Refused { number: u8, row: u16 },
     Row { row: Row, source: Source, next: u16 },

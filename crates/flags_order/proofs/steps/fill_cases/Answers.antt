@@ -1,0 +1,24 @@
+use mathlib.Core.Path.{◌≡◌, refl, sym, ◌∙◌}
+use mathlib.Core.Logic.{⊎_elim}
+use native.Mathlib.Omega.{arith}
+use Rattle.flags_order.specs.Steps.{rows_none, rows_more, rows_skip, steps_made}
+use borrow.Author.Rules.{rules}
+use Rattle.flags_order.proofs.steps.fill_cases.Goals as goal
+
+pub loop-j-init : goal.loop-j-init
+loop-j-init c = (search rules, refl, rows_none _ _ _ _)
+
+pub loop-j-preserved : goal.loop-j-preserved
+loop-j-preserved c =
+    let inv = c.loop-j.invariant in
+    let made = ⊎_elim
+    (λ v. rows_more _ _ _ _ _ _ c.if-holds_at.w (omega arith) inv.2 (rw v.5 v.2.ensures))
+    (λ v. rows_skip _ _ _ _ _ _ c.if-holds_at.w (sym c.holds_at.ensures ∙ v.0.left) inv.2 v.1)
+    c.if-holds_at.branch in
+    (search rules, made.grown.frame.len, made)
+
+pub returns : goal.returns
+returns c =
+    let e : c.loop-j.j ≡ c.args.n = omega arith in
+    steps_made _ _ _ _ _ _ (omega arith) (omega arith) c.requires.2 c.clear.ensures
+    (rw e at c.loop-j.invariant.2)

@@ -1,5 +1,7 @@
-// A reader over one table's rows: the table it was lent, and its place. Each function over it is thin, and proved by hand; what
-// stands at a place is found by functions on a plain slice and a number.
+// A reader over one table's rows: the table it was lent, and its place. Each function over it is thin; what stands at a place is
+// found by functions on a plain slice and a number.
+#![tactic(auto)]
+
 ghost use Rattle.std.specs.Prelude.{◌≡◌, true};
 ghost use Rattle.model.specs.Refusal.{admission};
 ghost use Rattle.door_step.specs.Steps.{step_at, next_at, opened_part, moved, stepped, stepped_at};

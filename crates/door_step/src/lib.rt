@@ -9,13 +9,13 @@ ghost use Rattle.door_step.specs.Steps.{step_at, next_at, opened_part, moved, st
 use door_rows::bytes;
 use model::{Admission, Row, Source};
 
-#[derive(Drop)]
+#[derive(Clone, Copy)]
 pub struct RowReader<'a> {
     pub table: &'a [u8],
     pub at: u16,
 }
 
-#[derive(Drop)]
+#[derive(Clone, Copy)]
 pub struct Opened<'a> {
     pub admission: Admission,
     pub reader: RowReader<'a>,

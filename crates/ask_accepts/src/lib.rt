@@ -18,7 +18,7 @@ use run_rows::{cases, moments};
 pub mod sync; // M4 and M5, from the rows alone
 
 // Two moments of a table, of which the first is to come before the second.
-#[derive(Drop)]
+#[derive(Clone, Copy)]
 struct Ends {
     pub first: u16,
     pub second: u16,

@@ -17,7 +17,7 @@ pub mod chains; // the class set of a chain, and its steps as numbers
 pub mod layers; // the steps of a class set, and the layers of chains of them
 
 // Two moments of a table, of which the first is to come before the second.
-#[derive(Drop)]
+#[derive(Clone, Copy)]
 struct Ends {
     pub first: u16,
     pub second: u16,

@@ -79,7 +79,7 @@ pub fn row_part<'a>(first: &'a [u8], second: &'a [u8], n: u16) -> &'a [u8]
 }
 
 // Where row n's sixteen bytes begin: in the first piece, in the second, or nowhere.
-#[derive(Drop)]
+#[derive(Clone, Copy)]
 pub enum RowPlace {
     First { at: u16 },
     Second { at: u16 },

@@ -12,27 +12,27 @@ pub mod parts; // values out of lent parts
 pub mod read; // the values of a table
 
 // A row with its source.
-#[derive(Drop)]
+#[derive(Clone, Copy)]
 pub struct Entry {
     pub row: Row,
     pub source: Source,
 }
 
 // How many dependencies there are, and the two rows of each.
-#[derive(Drop)]
+#[derive(Clone, Copy)]
 pub struct Dependencies {
     pub count: u16,
     pub first: [u16; 64],
     pub second: [u16; 64],
 }
 
-#[derive(Drop)]
+#[derive(Clone, Copy)]
 pub enum WriteAnswer {
     Refused { number: u8, row: u16 },
     Written { bytes: u16 },
 }
 
-#[derive(Drop)]
+#[derive(Clone, Copy)]
 pub enum ReadAnswer {
     Refused {
         number: u8,

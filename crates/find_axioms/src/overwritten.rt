@@ -59,7 +59,7 @@ pub fn over_reader(t: &Run, n: usize, src: &[u16], w: &[u64]) -> usize
     n
 }
 
-#[derive(Drop)]
+#[derive(Clone, Copy)]
 pub enum Overwrite {
     At { reader: u16, writer: u16, byte: u16 },
     Nothing,

@@ -63,7 +63,7 @@ pub fn may_race(t: &Run, n: usize, x: usize, y: usize, w: &[u64]) -> bool
     !(x == y) & shared::clash(r, q) & !mutual_at(t, n, x, y, w)
 }
 
-#[derive(Drop)]
+#[derive(Clone, Copy)]
 pub enum Found {
     At { first: u16, second: u16, byte: u16 },
     Nothing,

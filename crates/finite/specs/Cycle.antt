@@ -1,6 +1,6 @@
 -- The cycle that is shown: that there is one exactly where some number reaches itself, and which of them it is.
 -- Assumes nothing.
-use Rattle.std.specs.Prelude.{◌≡◌, true, false, ◌↔◌, eqb, length, get_or}
+use Rattle.std.specs.Prelude.{◌≡◌, ◌-◌, true, false, ◌↔◌, eqb, length, get_or}
 use Rattle.std.proofs.Math.Path.{refl, ap, subst}
 use Rattle.std.proofs.Common.{sym, ◌∙◌, not-suc-le-zero, eq-or-lt_of_le, suc-add}
 use Rattle.std.proofs.Math.Bool.{Bool}
@@ -237,8 +237,9 @@ module _ (n : ℕ) (e : ℕ → ℕ → Bool) where
 
   size_low : {x : ℕ} {m : List ℕ} → Way n e x x m → 1 ≤ length m → cycle_size n e x ≤ length m
   unfolding cycle_size
-  size_low there h = absurd (not-suc-le-zero h)
-  size_low {x} (onward {l = l} d a p) h = omega (arith, least_low (λ k. walk n e x (suc k) x) n (length l) (way_walk (onward d a p)))
+  size_low {x} {m} p h =
+      let q : suc (length m - 1) ≡ length m = omega arith in
+      omega (arith, q, least_low (λ k. walk n e x (suc k) x) n (length m - 1) (subst (λ (k : ℕ). walk n e x k x ≡ true) (sym q) (way_walk p)))
 
   pub cycle_canonical : cycle_start n e < n → Canonical n e (cycle n e)
   unfolding cycle_start cycle_size cycle

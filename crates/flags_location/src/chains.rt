@@ -32,7 +32,7 @@ pub const AVAILABLE: u8 = 2;
 pub const VISIBLE: u8 = 4;
 
 // What is asked: whether row x is ordered before row y at byte b.
-#[derive(Drop)]
+#[derive(Clone, Copy)]
 pub struct Asked {
     pub x: usize,
     pub y: usize,

@@ -73,7 +73,7 @@ pub fn operation_at(t: &Run, i: usize) -> bool
 // ---- an operation on the way
 
 // The way from row x to row y by an operation of this kind.
-#[derive(Drop)]
+#[derive(Clone, Copy)]
 struct Way {
     pub kind: u8,
     pub x: usize,

@@ -35,7 +35,7 @@ pub const CASE: u16 = 512;
 pub type Places = [[u16; 4]; 32];
 
 // A row without its source: what the order of rows goes by, the sources of atomic rows aside.
-#[derive(Drop)]
+#[derive(Clone, Copy)]
 pub struct Row {
     pub kind: u8,
     pub agent: u8,
@@ -51,7 +51,7 @@ pub struct Row {
 }
 
 // Where a row's bytes come from: a row's number, the initial value, or a blank.
-#[derive(Drop)]
+#[derive(Clone, Copy)]
 pub struct Source(pub u16);
 
 impl Source {
@@ -87,7 +87,7 @@ impl Source {
 }
 
 // The lowest byte that two accesses share.
-#[derive(Drop)]
+#[derive(Clone, Copy)]
 pub enum Shared {
     At(u16),
     Nothing,
@@ -95,14 +95,14 @@ pub enum Shared {
 
 // ---- answers
 
-#[derive(Drop)]
+#[derive(Clone, Copy)]
 pub enum Admission {
     Admitted { agents: u8, rows: u8 },
     Refused { number: u8, row: u16 },
 }
 
 // The number and the row of a refusal.
-#[derive(Drop)]
+#[derive(Clone, Copy)]
 pub struct Refusal {
     pub number: u8,
     pub row: u16,
@@ -121,7 +121,7 @@ pub fn refusal_of(a: Admission) -> Refusal
     }
 }
 
-#[derive(Drop)]
+#[derive(Clone, Copy)]
 pub enum CheckAnswer {
     Refused { number: u8, row: u16 },
     Cycle { rows: u16 },
@@ -130,7 +130,7 @@ pub enum CheckAnswer {
     RaceFree,
 }
 
-#[derive(Drop)]
+#[derive(Clone, Copy)]
 pub enum FillAnswer {
     Refused { number: u8, row: u16 },
     Race { first: u16, second: u16, byte: u16 },
@@ -139,20 +139,20 @@ pub enum FillAnswer {
 }
 
 // Why a moment happens before another: program order, or a chain of steps for this class set.
-#[derive(Drop)]
+#[derive(Clone, Copy)]
 pub enum Reason {
     ProgramOrder,
     Chain(u8),
 }
 
-#[derive(Drop)]
+#[derive(Clone, Copy)]
 pub enum AcceptAnswer {
     Refused { number: u8, row: u16 },
     Accepted,
     NotAccepted,
 }
 
-#[derive(Drop)]
+#[derive(Clone, Copy)]
 pub enum DeriveAnswer {
     Refused { number: u8, row: u16 },
     ProgramOrder,
@@ -161,7 +161,7 @@ pub enum DeriveAnswer {
 }
 
 // The share of the conflicting pairs that races; a table without a conflicting pair has none.
-#[derive(Drop)]
+#[derive(Clone, Copy)]
 pub enum Share {
     Of(f64),
     NoPairs,
@@ -169,7 +169,7 @@ pub enum Share {
 
 // How many pairs of rows conflict; how many of these are mutually-ordered, how many aren't but have order at every shared byte, and
 // how many race; and the share of the last in the first.
-#[derive(Drop)]
+#[derive(Clone, Copy)]
 pub struct Report {
     pub conflicting: u16,
     pub mutuals: u16,
@@ -179,7 +179,7 @@ pub struct Report {
 }
 
 // A check's answer to a table that is refused or inconsistent; else the report, or that no pair conflicts.
-#[derive(Drop)]
+#[derive(Clone, Copy)]
 pub enum ReportAnswer {
     Refused { number: u8, row: u16 },
     Cycle { rows: u16 },

@@ -2,6 +2,7 @@
 -- taken over the hubs alone, which are numbered apart. For any relation, any hubs and any bounds. Assumes nothing.
 use Rattle.std.specs.Prelude.{◌≡◌, refl, Bool, true, ◌⊎◌, ℕ, zero, suc, ◌≤◌, ◌<◌}
 use Rattle.std.proofs.Common.{inl, inr, arith}
+use Rattle.std.proofs.Math.Path.{subst}
 use Rattle.finite.specs.Logic.{◌and◌, ◌or◌, bool_ext, split, and_true}
 use Rattle.finite.specs.Closure.{Reach, one, more, through, through_reach}
 
@@ -45,18 +46,25 @@ module _ (r : ℕ → ℕ → Bool) (bound : ℕ) (hub : ℕ → Bool) (at : ℕ
   hops_hub {x} {c} (more {m = y} e l q) = (hop_out x y e).0
 
   -- a path from a hub, by way of m first, is one of hops
-  reach_hops : (x m c : ℕ) → hub x ≡ true → m < bound → r (at x) m ≡ true → Reach r bound m (at c) → Reach (hop r hub at) n x c
-  reach_hops x m c e l f (one g) = go (h.skip (at x) m (at c) l f g)
+  reach_hops_to : (x m c v : ℕ) → v ≡ at c → hub x ≡ true → m < bound → r (at x) m ≡ true → Reach r bound m v → Reach (hop r hub at) n x c
+  reach_hops_to x m c v z e l f (one g0) = go (h.skip (at x) m (at c) l f g)
     where
+      g : r m (at c) ≡ true
+      g = subst (λ (k : ℕ). r m k ≡ true) z g0
+
       go : (r (at x) (at c) ≡ true) ⊎ ((y : ℕ) × (y < n) × (hub y ≡ true) × (at y ≡ m)) → Reach (hop r hub at) n x c
       go (inl d) = one (hop_in x c e d)
       go (inr (y, k, u, v)) = more (hop_in x y e (rw v f)) k (one (hop_in y c u (rw v g)))
-  reach_hops x m c e l f (more {m = a} g k q) = go (h.skip (at x) m a l f g) (λ d. reach_hops x a c e k d q) (λ y u d. reach_hops y a c u k d q)
+  reach_hops_to x m c v z e l f (more {m = a} g k q) =
+      go (h.skip (at x) m a l f g) (λ d. reach_hops_to x a c v z e k d q) (λ y u d. reach_hops_to y a c v z u k d q)
     where
       go : (r (at x) a ≡ true) ⊎ ((y : ℕ) × (y < n) × (hub y ≡ true) × (at y ≡ m)) → (r (at x) a ≡ true → Reach (hop r hub at) n x c)
           → ((y : ℕ) → hub y ≡ true → r (at y) a ≡ true → Reach (hop r hub at) n y c) → Reach (hop r hub at) n x c
       go (inl d) s t = s d
       go (inr (y, k, u, v)) s t = more (hop_in x y e (rw v f)) k (t y u (rw v g))
+
+  reach_hops : (x m c : ℕ) → hub x ≡ true → m < bound → r (at x) m ≡ true → Reach r bound m (at c) → Reach (hop r hub at) n x c
+  reach_hops x m c = reach_hops_to x m c (at c) refl
 
   from_hub : (x c : ℕ) → hub x ≡ true → Reach r bound (at x) (at c) → Reach (hop r hub at) n x c
   from_hub x c e (one f) = one (hop_in x c e f)

@@ -22,12 +22,21 @@ use Rattle.model_promises.specs.Check as page
 
 -- ---- what is shown is only one
 
+lex_head : {a b : ℕ} {l m : List ℕ} → Lex (a ∷ l) (b ∷ m) → (a < b) ⊎ ((a ≡ b) × Lex l m)
+lex_head (less p) = inl p
+lex_head (same p) = inr (refl, p)
+
 lex_same : (l m : List ℕ) → Lex l m → Lex m l → l ≡ m
 lex_same [] [] p q = refl
-lex_same (a ∷ l) (b ∷ m) (less p) (less q) = absurd (omega arith)
-lex_same (a ∷ l) (b ∷ m) (less p) (same q) = absurd (omega arith)
-lex_same (a ∷ l) (b ∷ m) (same p) (less q) = absurd (omega arith)
-lex_same (a ∷ l) (b ∷ m) (same p) (same q) = ap (λ (x : List ℕ). a ∷ x) (lex_same l m p q)
+lex_same [] (b ∷ m) p q = elim q [ ]
+lex_same (a ∷ l) [] p q = elim p [ ]
+lex_same (a ∷ l) (b ∷ m) p q = go (lex_head p) (lex_head q) (λ u v. lex_same l m u v)
+  where
+    go : (a < b) ⊎ ((a ≡ b) × Lex l m) → (b < a) ⊎ ((b ≡ a) × Lex m l) → (Lex l m → Lex m l → l ≡ m) → (a ∷ l) ≡ (b ∷ m)
+    go (inl x) (inl y) s = absurd (omega arith)
+    go (inl x) (inr (y, v)) s = absurd (omega arith)
+    go (inr (x, u)) (inl y) s = absurd (omega arith)
+    go (inr (x, u)) (inr (y, v)) s = rw (x, s u v) refl
 
 pub canonical_one : {n : ℕ} {e : ℕ → ℕ → Bool} (l m : List ℕ) → Canonical n e l → Canonical n e m → l ≡ m
 canonical_one l m a b =

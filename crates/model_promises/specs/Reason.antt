@@ -186,6 +186,7 @@ accepts_exactly t m k ProgramOrder l = (out l, back l)
 
     back : (l : List ℕ) → Accepted t m k ProgramOrder l → (eqb (length l) 0 and program_order t m k) ≡ true
     back [] (by_word h) = and_true (eq-eqb 0 0 refl) h
+    back (_ ∷ _) x = elim x [ ]
 accepts_exactly t m k (Chain s) l = (chain_out t s m k l, back s l)
   where
     back : (s : ℕ) (l : List ℕ) → Accepted t m k (Chain s) l → chain_holds t s m k l ≡ true
@@ -263,6 +264,7 @@ module _ (t : Table) (m k : ℕ) (f : t.rows ≤ ROWS) (two : two_moments t m k 
     where
       forth : (r : Reason) (l : List ℕ) → Accepted t m k r l → HappensBefore t m k
       forth ProgramOrder [] (by_word h) = inl h
+      forth ProgramOrder (_ ∷ _) x = elim x [ ]
       forth (Chain s) l (by_chain a b c d p) = inr (s, a, b, leads_reach t s c p)
 
       back : HappensBefore t m k → (r : Reason) × (l : List ℕ) × (accepts t m k r l ≡ true)
@@ -351,6 +353,7 @@ module _ (s : List ℕ) (m k : ℕ) {a n : ℕ} (admits : admission true s ≡ A
     where
       out : (l : List ℕ) → Accepted (table_of s) m k ProgramOrder l → (l ≡ []) × (program_order (table_of s) m k ≡ true)
       out [] (by_word h) = (refl, h)
+      out (_ ∷ _) x = elim x [ ]
 
       back : (l : List ℕ) → l ≡ [] → program_order (table_of s) m k ≡ true → accepts (table_of s) m k ProgramOrder l ≡ true
       back l e h = rw e ((accepts_exactly (table_of s) m k ProgramOrder []).1 (by_word h))

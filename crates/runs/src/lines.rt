@@ -5,7 +5,7 @@ const MOST_DIGITS: u16 = 8192;
 
 const NO_DIGIT: u8 = 16;
 
-#[derive(Drop)]
+#[derive(Clone, Copy)]
 pub struct Line {
     // The word's first letter, 0 before it.
     pub word: u8,

@@ -93,7 +93,7 @@ pub make_turn : {t : Table} {n i : ℕ} {chains : Bool} {s w u v : List ℕ} {x 
 make_turn {t} {n} {u = u} {v = v} {x = x} m low h p =
     let few = given_few m.ready.given in
     let b = turned_turn n x (λ k u. k ≡ k) (Both t n) u v m.walk m.to low h (λ k l e f. refl)
-    (λ k l e f. record { to = rows_at (p.kept_to k (omega arith) e) f.to; by = rows_at (p.kept_by k (omega arith) e) f.by })
+    (λ k l e f. record { to = rows_at (p.kept_to k (omega arith) e) f.to; by = rows_at (p.kept_by_lem k (omega arith) e) f.by })
     (λ l. record { to = p.to; by = p.by }) in
     record { walk = b.0; to = b.1; ready = ready_kept p.frame m.ready; frame = within_trans m.frame p.frame }
 

@@ -21,7 +21,7 @@ use run::Run;
 use sets_of_rows::{Set, kept};
 
 // A blank, and the writers that are ordered before it.
-#[derive(Drop)]
+#[derive(Clone, Copy)]
 struct Blank {
     y: usize,
     writers: Set,

@@ -88,7 +88,7 @@ pub const REACH_END: usize = REACH_AVAILABLE + GRID;
 
 // For one class set: its nodes, which are the rows that hold all of it and are releases or acquires, and the ends of dependencies; of these
 // the releases and the acquires; the rows that it concerns, and those whose availability and visibility operations it concerns.
-#[derive(Drop)]
+#[derive(Clone, Copy)]
 pub struct Concerned {
     pub nodes: Set,
     pub releases: Set,

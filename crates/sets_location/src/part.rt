@@ -27,7 +27,7 @@ use sets_of_table::fields;
 
 // What is made available of a write: by operations that cover all of its bytes, the rows to which they do, and those by whose visibility
 // operations it is then visible; and the availability operations of plain rows that cover some of its bytes.
-#[derive(Drop)]
+#[derive(Clone, Copy)]
 pub struct Available {
     pub to: Set,
     pub by: Set,

@@ -11,7 +11,7 @@ pub mod kept; // sets that stand in a lent list of words
 pub mod walk; // what goes over the members of a set
 
 // Rows 0 to 63 and rows 64 to 127.
-#[derive(Drop)]
+#[derive(Clone, Copy)]
 pub struct Set {
     pub lo: u64,
     pub hi: u64,

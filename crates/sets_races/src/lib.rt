@@ -106,7 +106,7 @@ pub fn first_race(t: &Run, n: usize, s: &[u64], w: &[u64]) -> Found
 
 // ---- counts
 
-#[derive(Drop)]
+#[derive(Clone, Copy)]
 pub struct Counts {
     pub conflicting: u16,
     pub mutuals: u16,

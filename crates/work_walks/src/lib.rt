@@ -10,7 +10,7 @@ pub mod grid; // along a grid over rows
 pub mod moments; // along a grid over moments
 
 // Where the steps and the layers begin, and the words of a row of either.
-#[derive(Drop)]
+#[derive(Clone, Copy)]
 struct Matrices {
     pub steps: usize,
     pub layers: usize,

@@ -1,0 +1,6 @@
+use Rattle.model.specs.Table.{row_of}
+use Rattle.door_rows.proofs.bytes.row_beyond.Goals as goal
+
+pub returns : goal.returns
+unfolding row_of
+returns c = cc

@@ -1,0 +1,21 @@
+use Rattle.door_write.specs.Answer.{number_over}
+use Rattle.finite.specs.Below.{any_none, any_more, any_in}
+use native.Mathlib.Omega.{arith}
+use mathlib.Core.Bool.{false}
+use mathlib.Core.Path.{◌≡◌, sym, ◌∙◌}
+use borrow.Author.Rules.{rules}
+use Rattle.door_write.proofs.any_number_over.Goals as goal
+
+pub loop-a-init : goal.loop-a-init
+loop-a-init c = (search rules, any_none _)
+
+pub returns-then-number_over : goal.returns-then-number_over
+returns-then-number_over c = sym (any_in _ _ _ c.loop-a-test.true (sym c.number_over.ensures ∙ c.if-number_over.true))
+
+pub loop-a-preserved : goal.loop-a-preserved
+loop-a-preserved c = (search rules, any_more _ _ c.loop-a.invariant.1 (sym c.number_over.ensures ∙ c.if-number_over.false))
+
+pub returns : goal.returns
+returns c =
+    let done : c.loop-a.a ≡ c.args.agents = omega arith in
+    sym (rw done at c.loop-a.invariant.1)

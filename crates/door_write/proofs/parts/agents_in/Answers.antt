@@ -1,0 +1,6 @@
+use Rattle.door_write.specs.Parts.{agents_in}
+use Rattle.door_write.proofs.parts.agents_in.Goals as goal
+
+pub returns : goal.returns
+unfolding agents_in
+returns c = c.capped.ensures.0

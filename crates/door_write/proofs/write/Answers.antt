@@ -1,0 +1,68 @@
+use native.Mathlib.Omega.{arith}
+use mathlib.Core.Path.{sym, ◌∙◌}
+use Rattle.door_write.specs.ValueLaws.{values_fit, agents_few, rows_few, after_few}
+use Rattle.door_write.proofs.Laws.{few_bytes, front_is, front_size, answer_is, values_refused, refused_both, written_both, refused_out, short_is, long_is}
+use borrow.Author.Rules.{rules}
+use Rattle.door_write.proofs.write.Goals as goal
+
+pub returns-then-fault-ne0 : goal.returns-then-fault-ne0
+returns-then-fault-ne0 c = refused_both _ _ _ _ _ (values_refused _ _ _ _ _ _ _ _ c.values_fault-fault.ensures c.if-fault-ne0.true)
+
+pub encode_table-t-requires : goal.encode_table-t-requires
+encode_table-t-requires c =
+    let f = values_fit _ _ _ _ _ (sym c.values_fault-fault.ensures ∙ c.if-fault-ne0.false) in
+    (agents_few f, rows_few f, after_few f)
+
+pub slice_bounds-t-end : goal.slice_bounds-t-end
+slice_bounds-t-end c =
+    let k = few_bytes _ _ _ _ _ _ 0 _ c.values_fault-fault.ensures c.if-fault-ne0.false _ _
+    c.table_size-size.ensures.0 c.encode_table-t.ensures in
+    search rules
+
+pub slice_bounds-admit-end : goal.slice_bounds-admit-end
+slice_bounds-admit-end c = front_size _ _ _ _ _ _ 0 _ c.values_fault-fault.ensures
+    c.if-fault-ne0.false _ _ c.table_size-size.ensures.0 c.encode_table-t.ensures
+
+pub returns-in_default : goal.returns-in_default
+returns-in_default c =
+    refused_out _ _ _ _ (answer_is _ _ _ _ _ _ _ _
+    c.values_fault-fault.ensures
+    c.if-fault-ne0.false _ _
+    c.table_size-size.ensures.0
+    c.encode_table-t.ensures _ c.admit-a.ensures) _ _ _ _ _
+    c.refusal_of-x.ensures c.in_default.is
+
+pub returns-then-out-size : goal.returns-then-out-size
+returns-then-out-size c =
+    refused_both _ _ _ _ _ (short_is _ _ _ _
+    (answer_is _ _ _ _ _ _ _ _ c.values_fault-fault.ensures
+    c.if-fault-ne0.false _ _
+    c.table_size-size.ensures.0
+    c.encode_table-t.ensures _ c.admit-a.ensures) _ _
+    c.in-Admitted.is c.if-out-size.true)
+
+pub put-requires : goal.put-requires
+put-requires c =
+    let k = few_bytes _ _ _ _ _ _ 0 _ c.values_fault-fault.ensures c.if-fault-ne0.false _ _
+    c.table_size-size.ensures.0
+    c.encode_table-t.ensures in
+    (omega (arith, c.if-out-size.false), search rules)
+
+pub overflow_cast-result : goal.overflow_cast-result
+overflow_cast-result c =
+    let k = few_bytes _ _ _ _ _ _ 0 _ c.values_fault-fault.ensures c.if-fault-ne0.false _ _ c.table_size-size.ensures.0
+    c.encode_table-t.ensures in
+    omega arith
+
+pub returns : goal.returns
+returns c =
+    written_both _ _ _ _ _ _ (long_is _ _ _ _
+    (answer_is _ _ _ _ _ _ _ _ c.values_fault-fault.ensures c.if-fault-ne0.false _ _ c.table_size-size.ensures.0
+    c.encode_table-t.ensures _
+    c.admit-a.ensures) _ _
+    c.in-Admitted.is c.if-out-size.false)
+    c.put.ensures (front_is _ _ _ _ _ _ 0 _
+    c.values_fault-fault.ensures
+    c.if-fault-ne0.false _ _
+    c.table_size-size.ensures.0
+    c.encode_table-t.ensures)

@@ -1,0 +1,18 @@
+use mathlib.Core.Path.{sym, ◌∙◌}
+use borrow.Author.Tests.{not-false}
+use Rattle.finite.specs.Logic.{and_false_left, and_on}
+use Rattle.flags_location.specs.Chains.{ends_row}
+use mathlib.Core.Path.{ap}
+use mathlib.Core.Bool.{not}
+use Rattle.flags_location.proofs.chains.ends_with.Goals as goal
+
+pub returns-then-not-get : goal.returns-then-not-get
+returns-then-not-get c =
+    let pre = c.requires in
+    sym (ends_row pre.pair _ _ _ pre.chains pre.row pre.next c.get.ensures ∙ and_false_left _ _ c.if-not-get.true)
+
+pub returns : goal.returns
+returns c =
+    let pre = c.requires in
+    c.ends_at.ensures ∙ sym (ends_row pre.pair _ _ _ pre.chains pre.row pre.next c.get.ensures
+    ∙ and_on _ _ (not-false _ (ap not c.if-not-get.false)))

@@ -1,0 +1,17 @@
+use mathlib.Core.Path.{refl, sym, ◌∙◌}
+use borrow.Author.Tests.{not-false}
+use Rattle.finite.specs.Logic.{and_false_left, and_on}
+use Rattle.flags_location.specs.Chains.{met_row_lem}
+use mathlib.Core.Path.{ap}
+use mathlib.Core.Bool.{not}
+use Rattle.flags_location.proofs.chains.met_at.Goals as goal
+
+pub returns-then-not-happens_bit : goal.returns-then-not-happens_bit
+returns-then-not-happens_bit c =
+    sym (met_row_lem c.requires c.row-s.ensures c.available_part.ensures c.happens_bit.ensures refl refl
+    ∙ and_false_left _ _ c.if-not-happens_bit.true)
+
+pub returns : goal.returns
+returns c =
+    sym (met_row_lem c.requires c.row-s.ensures c.available_part.ensures c.happens_bit.ensures c.widest.ensures
+    c.meet_in.ensures ∙ and_on _ _ (not-false _ (ap not c.if-not-happens_bit.false)))

@@ -1,0 +1,10 @@
+use Rattle.run.specs.Layout.{table_in}
+use mathlib.Core.Path.{◌≡◌}
+use mathlib.Core.Bool.{false}
+use Prim.Native.Nat.{◌+◌, ◌≤◌}
+use Rattle.finite.specs.Below.{any_below}
+use Rattle.flags_location.specs.Chains.{shown_by}
+use Rattle.flags_location.proofs.chains.some_shown.Given as goal
+
+abbrev pub invariant-loop-v : goal.invariant-loop-v
+invariant-loop-v l = (l.v ≤ l.p.y + 1) × (any_below l.v (shown_by (table_in l.t l.n) l.p.x l.p.y l.p.b l.i) ≡ false)

@@ -1,0 +1,10 @@
+use Rattle.run.specs.Layout.{table_in}
+use mathlib.Core.Path.{◌≡◌}
+use mathlib.Core.Bool.{false}
+use Prim.Native.Nat.{◌≤◌}
+use Rattle.finite.specs.Below.{any_below}
+use Rattle.flags_location.specs.Chains.{starts_with}
+use Rattle.flags_location.proofs.chains.some_start.Given as goal
+
+abbrev pub invariant-loop-j : goal.invariant-loop-j
+invariant-loop-j l = (l.j ≤ l.n) × (any_below l.j (starts_with (table_in l.t l.n) l.p.x l.p.y l.i l.v) ≡ false)

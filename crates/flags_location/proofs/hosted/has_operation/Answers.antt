@@ -1,0 +1,21 @@
+use Rattle.flags_location.specs.Domains.{operation_at}
+use Rattle.finite.specs.Below.{any_none, any_more, any_in}
+use native.Mathlib.Omega.{arith}
+use mathlib.Core.Bool.{false}
+use mathlib.Core.Path.{◌≡◌, sym, ◌∙◌}
+use borrow.Author.Rules.{rules}
+use Rattle.flags_location.proofs.hosted.has_operation.Goals as goal
+
+pub loop-i-init : goal.loop-i-init
+loop-i-init c = (search rules, any_none _)
+
+pub returns-then-operation_at : goal.returns-then-operation_at
+returns-then-operation_at c = sym (any_in _ _ _ c.loop-i-test.true (sym c.operation_at.ensures ∙ c.if-operation_at.true))
+
+pub loop-i-preserved : goal.loop-i-preserved
+loop-i-preserved c = (search rules, any_more _ _ c.loop-i.invariant.1 (sym c.operation_at.ensures ∙ c.if-operation_at.false))
+
+pub returns : goal.returns
+returns c =
+    let e : c.loop-i.i ≡ c.args.n = omega arith in
+    sym (rw e at c.loop-i.invariant.1)

@@ -1,0 +1,20 @@
+use mathlib.Core.Path.{◌≡◌, sym, ◌∙◌}
+use mathlib.Core.Bool.{false}
+use native.Mathlib.Omega.{arith}
+use Rattle.finite.specs.Below.{any_none, any_more, any_in}
+use borrow.Author.Rules.{rules}
+use Rattle.run_rows.proofs.control.is_passed.Goals as goal
+
+pub loop-c-init : goal.loop-c-init
+loop-c-init c = (search rules, any_none _)
+
+pub returns-then-passes_at : goal.returns-then-passes_at
+returns-then-passes_at c = sym (any_in _ _ _ c.loop-c-test.true (sym c.passes_at.ensures ∙ c.if-passes_at.true))
+
+pub loop-c-preserved : goal.loop-c-preserved
+loop-c-preserved c = (search rules, any_more _ _ c.loop-c.invariant.1 (sym c.passes_at.ensures ∙ c.if-passes_at.false))
+
+pub returns : goal.returns
+returns c =
+    let e : c.loop-c.c ≡ c.args.n = omega arith in
+    sym (rw e at c.loop-c.invariant.1)

@@ -298,7 +298,7 @@ fn parts_by(constructor: &Expr, value: &Value) -> Option<Vec<Value>> {
         (Expr::Constructor(a), Value::Function(b)) => {
             matches!(b.code, Expr::Constructor(b) if a == b).then(|| b.given.clone())
         }
-        // `suc` and `_∷_`
+        // `suc` and `◌∷◌`
         (_, Value::Number(number)) => Some(vec![Value::Number(number.checked_sub(1)?)]),
         (_, value) => {
             let (first, rest) = value.parts().split_first()?;

@@ -1,13 +1,15 @@
 use mathlib.Core.Path.{◌≡◌, refl, sym, ap, ◌∙◌}
-use mathlib.Core.Logic.{⊎_elim}
-use Prim.Native.Nat.{ℕ}
+use lib.ListN.{length}
+use Rattle.run.specs.Layout.{table_in}
+use Prim.Native.Nat.{ℕ, ◌+◌}
 use Rattle.model.specs.Row.{meets, single}
 use Rattle.model.specs.Table.{decode}
 use Rattle.sets_of_rows.specs.Rows.{rows_at}
-use Rattle.sets_location.specs.Carried.{carry_begin, carry_taken, carry_left, carry_end}
+use Rattle.sets_location.specs.Carried.{Carrying, carry_begin, carry_taken, carry_left, carry_end}
 use native.Mathlib.Omega.{arith}
 use borrow.Author.Rules.{rules}
 use Rattle.sets_location.proofs.carry_back.Goals as goal
+use Rattle.sets_location.proofs.carry_back.Goals.{then-holds_class, else-holds_class}
 
 pub agent-agent-requires : goal.agent-agent-requires
 unfolding decode
@@ -77,13 +79,14 @@ loop-q-preserved c =
     let inv = c.loop-q.invariant in
     let held = c.holds_class.ensures in
     let classes = c.classes-classes.ensures in
-    let e =
-    ⊎_elim
-    (λ v. carry_taken _ _ _ _ v.9 inv.1 pre.1.widely (omega (arith, c.agent-agent.ensures, (pre.0.coded _ pre.1.low).agent)) c.agent-agent.ensures c.loop-q-test.true
-    (ap (λ (m : ℕ). meets m (single c.loop-q.q)) (sym classes) ∙ sym held ∙ v.0.taken) (rows_at c.get-to.ensures (pre.1.available.to.row _ pre.1.low pre.1.widely.available))
-    (rows_at c.get-by.ensures (pre.1.available.by.row _ pre.1.low pre.1.widely.available)) v.2.ensures v.6.ensures inv.2)
-    (λ v. carry_left _ _ _ v.1 inv.1 (ap (λ (m : ℕ). meets m (single c.loop-q.q)) (sym classes) ∙ sym held ∙ v.0.left) inv.2)
-    c.if-holds_class.branch
+    let e : (length c.if-holds_class.made ≡ length c.args.made.now) × Carrying (table_in c.args.t.now c.args.n) c.args.n c.args.x (c.loop-q.q + 1) c.if-holds_class.made =
+        elim c.if-holds_class.branch [
+          then-holds_class v ↦
+            carry_taken _ _ _ _ v.made-is inv.1 pre.1.widely (omega (arith, c.agent-agent.ensures, (pre.0.coded _ pre.1.low).agent)) c.agent-agent.ensures c.loop-q-test.true
+            (ap (λ (m : ℕ). meets m (single c.loop-q.q)) (sym classes) ∙ sym held ∙ v.if-holds_class.true) (rows_at c.get-to.ensures (pre.1.available.to.row _ pre.1.low pre.1.widely.available))
+            (rows_at c.get-by.ensures (pre.1.available.by.row _ pre.1.low pre.1.widely.available)) v.join.ensures v.join-then-holds_class.ensures inv.2
+          | else-holds_class v ↦ carry_left _ _ _ v.made-is inv.1 (ap (λ (m : ℕ). meets m (single c.loop-q.q)) (sym classes) ∙ sym held ∙ v.if-holds_class.false) inv.2
+        ]
     in
     (search rules, e.0, e.1)
 

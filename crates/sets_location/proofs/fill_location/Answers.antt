@@ -1,5 +1,4 @@
 use mathlib.Core.Path.{◌≡◌, refl, sym, ◌∙◌}
-use mathlib.Core.Logic.{⊎_elim}
 use Prim.Native.Nat.{◌-◌}
 use Rattle.run.specs.Layout.{table_in}
 use Rattle.sets_of_table.specs.Ask.{few}
@@ -7,25 +6,17 @@ use Rattle.sets_location.specs.Filled.{Filled, carried_none, filled_begin, fille
 use native.Mathlib.Omega.{arith}
 use borrow.Author.Rules.{rules}
 use Rattle.sets_location.proofs.fill_location.Goals as goal
+use Rattle.sets_location.proofs.fill_location.Goals.{Joined-has, then-has, else-has}
 
-joined : (c : tie.Joined1 invariant_loop decreases_loop) →
-    let c_4 = c.before.before.before.before in
-    let c_8 = c_4.before.before.before.before in
-    let c_12 = c_8.before.before.before.before in
-    let c_16 = c_12.before.before.before.before in
-    Filled (table_in c_16.before.before.args.t.now c_16.before.before.args.n) c_16.before.before.args.n (c.before.before.before.loop.x - 1) c_16.before.before.args.s.now c_8.before.before.clear2.new.0 c.if1.w
+joined : (c : Joined-has) → Filled (table_in c.args.t.now c.args.n) c.args.n (c.loop-x.x - 1) c.args.s.now c.clear-2.new.w c.if-has.w
 joined c =
-    let c_4 = c.before.before.before.before in
-    let c_8 = c_4.before.before.before.before in
-    let c_12 = c_8.before.before.before.before in
-    let c_16 = c_12.before.before.before.before in
-    let inv = c.before.before.before.loop.invariant in
-    let pos = c.before.before.loop_test.true in
-    let o = c_16.before.before.requires.0.opened in
-    ⊎_elim
-    (λ v. filled_taken v.6 (omega (arith, inv.0, pos)) (filled_at pos inv.1) v.3.ensures)
-    (λ v. filled_left v.1 (access_is o _ (omega (arith, inv.0, pos)) _ _ _ c_4.before.before.before.rows.ensures c.before.has.ensures v.0.left) (filled_at pos inv.1))
-    c.if1.branch
+    let inv = c.loop-x.invariant in
+    let pos = c.loop-x-test.true in
+    let o = c.requires.0.opened in
+    elim c.if-has.branch [
+      then-has v ↦ filled_taken v.w-is (omega (arith, inv.0, pos)) (filled_at pos inv.1) v.place_row.ensures
+      | else-has v ↦ filled_left v.w-is (access_is o _ (omega (arith, inv.0, pos)) _ _ _ c.rows-accesses.ensures c.has.ensures v.if-has.false) (filled_at pos inv.1)
+    ]
 
 pub clear-requires : goal.clear-requires
 clear-requires c = (omega arith, omega (arith, c.requires.0.room))
@@ -77,7 +68,7 @@ carry_back-requires c =
     let inv = c.loop-x.invariant in
     let pos = c.loop-x-test.true in
     let o = c.requires.0.opened in
-    let f = joined (c) in
+    let f = joined (goal.at.carry_back-requires c).Joined-has in
     (o.fit, record { low = omega (arith, inv.0, pos); widely = widely o _ (omega (arith, inv.0, pos)) _ _ _ _ c.rows.ensures c.rows-2.ensures c.less-wide.ensures c.has-in-loop-x.ensures c.if-has-2.true; room = f.from.given.room; available = f.from.locating.available }, carried_at pos inv.3)
 
 pub loop-x-smaller-then-has-2 : goal.loop-x-smaller-then-has-2
@@ -87,7 +78,7 @@ loop-x-smaller-then-has-2 c =
 pub loop-x-preserved-then-has-2 : goal.loop-x-preserved-then-has-2
 loop-x-preserved-then-has-2 c =
     let inv = c.loop-x.invariant in
-    (omega (arith, inv.0), joined c, c.carry_back.ensures.0 ∙ inv.2, c.carry_back.ensures.1)
+    (omega (arith, inv.0), joined (goal.at.loop-x-preserved-then-has-2 c).Joined-has, c.carry_back.ensures.0 ∙ inv.2, c.carry_back.ensures.1)
 
 pub loop-x-smaller : goal.loop-x-smaller
 loop-x-smaller c = omega (arith, c.loop-x-test.true)
@@ -97,7 +88,7 @@ loop-x-preserved c =
     let inv = c.loop-x.invariant in
     let pos = c.loop-x-test.true in
     let o = c.requires.0.opened in
-    (omega (arith, inv.0), joined c, inv.2, carried_left o _ (omega (arith, inv.0, pos)) _ _ _ _ c.rows.ensures c.rows-2.ensures c.less-wide.ensures c.has-in-loop-x.ensures c.if-has-2.false (carried_at pos inv.3))
+    (omega (arith, inv.0), joined (goal.at.loop-x-preserved c).Joined-has, inv.2, carried_left o _ (omega (arith, inv.0, pos)) _ _ _ _ c.rows.ensures c.rows-2.ensures c.less-wide.ensures c.has-in-loop-x.ensures c.if-has-2.false (carried_at pos inv.3))
 
 pub shape_of-w : goal.shape_of-w
 shape_of-w c =

@@ -12,36 +12,6 @@ use Rattle.sets_races.specs.Pair.{open_conflict, byte_at, mask_first}
 use Rattle.sets_races.specs.Search.{races_out, race_on, race_off, partner_found, partner_none, has_out, from_none, from_some, row_found, row_none, byte_low, byte_found}
 use Rattle.sets_races.proofs.first_race.Goals as goal
 
-but_first_requires :
-    tie.Need-but-first-requires invariant_loop2 decreases_loop2 invariant_loop decreases_loop invariant_pairs decreases_pairs
-but_first_requires c κs = sym c.before.before.some.ensures ∙ c.before.if1.true
-
-open_after_requires :
-    tie.Need-open-after-requires invariant_loop2 decreases_loop2 invariant_loop decreases_loop invariant_pairs decreases_pairs
-unfolding decode
-open_after_requires c κs =
-    let c_4 = c.before.before.before.before in
-    let c_8 = c_4.before.before.before.before in
-    let acc = rows_at c_4.before.rows.ensures (says_rows c_8.requires.given.opened.known.tested.accesses.access) in
-    let m = member_in _ acc (walk_in c_4.pairs.invariant.0 c.before.first.ensures) in
-    (record { low = m.0; is = m.1 }, c_8.requires)
-
-but_first_requires_2 :
-    tie.Need-but-first-requires-2 invariant_loop2 decreases_loop2 invariant_loop decreases_loop invariant_pairs decreases_pairs
-but_first_requires_2 c κs = sym c.before.before.some2.ensures ∙ c.before.if2.true
-
-unordered_requires :
-    tie.Need-unordered-requires invariant_loop2 decreases_loop2 invariant_loop decreases_loop invariant_pairs decreases_pairs
-unfolding decode
-unordered_requires c κs =
-    let c_4 = c.before.before.before.before in
-    let c_8 = c_4.before.before.before.before in
-    let c_12 = c_8.before.before.before.before in
-    let acc = rows_at c_8.before.before.before.rows.ensures (says_rows c_12.before.before.requires.given.opened.known.tested.accesses.access) in
-    let m = member_in _ acc (walk_in c_8.before.before.pairs.invariant.0 c_4.before.before.before.first.ensures) in
-    let o = member_in _ c_4.before.Open_after.ensures (walk_in c_4.loop.invariant.0 c.before.first2.ensures) in
-    (record { first = m.0; second = o.0 }, open_conflict _ _ _ o.1, judged c_12.before.before.requires)
-
 pub rows-left-requires : goal.rows-left-requires
 rows-left-requires c = let a = c.requires.given.opened.space in omega arith
 
@@ -53,6 +23,16 @@ pairs-init c =
 
 pub first-x-requires : goal.first-x-requires
 first-x-requires c = sym c.some.ensures ∙ c.pairs-test.true
+
+pub but_first-left-requires : goal.but_first-left-requires
+but_first-left-requires c = sym c.some.ensures ∙ c.pairs-test.true
+
+pub open_after-others-requires : goal.open_after-others-requires
+unfolding decode
+open_after-others-requires c =
+    let acc = rows_at c.rows-left.ensures (says_rows c.requires.given.opened.known.tested.accesses.access) in
+    let m = member_in _ acc (walk_in c.pairs.invariant.0 c.first-x.ensures) in
+    (record { low = m.0; is = m.1 }, c.requires)
 
 pub loop-others-init : goal.loop-others-init
 loop-others-init c =
@@ -74,6 +54,17 @@ pairs-preserved c =
 
 pub first-y-requires : goal.first-y-requires
 first-y-requires c = sym c.some-in-loop-others.ensures ∙ c.loop-others-test.true
+
+pub but_first-others-requires : goal.but_first-others-requires
+but_first-others-requires c = sym c.some-in-loop-others.ensures ∙ c.loop-others-test.true
+
+pub unordered-bytes-requires : goal.unordered-bytes-requires
+unfolding decode
+unordered-bytes-requires c =
+    let acc = rows_at c.rows-left.ensures (says_rows c.requires.given.opened.known.tested.accesses.access) in
+    let m = member_in _ acc (walk_in c.pairs.invariant.0 c.first-x.ensures) in
+    let o = member_in _ c.open_after-others.ensures (walk_in c.loop-others.invariant.0 c.first-y.ensures) in
+    (record { first = m.0; second = o.0 }, open_conflict _ _ _ o.1, judged c.requires)
 
 pub loop-others-smaller : goal.loop-others-smaller
 loop-others-smaller c = walk_less c.first-y.ensures c.but_first-others.ensures

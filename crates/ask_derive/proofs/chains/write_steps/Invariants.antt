@@ -1,3 +1,4 @@
+use Prim.Native.Nat.{◌≤◌}
 use Rattle.run.specs.Layout.{table_in}
 use Rattle.ask_derive.proofs.chains.write_steps.Given as goal
 

@@ -1,5 +1,7 @@
-// A reader over one table's rows: the table it was lent, and its place. Each function over it is thin, and proved by hand; what
-// stands at a place is found by functions on a plain slice and a number.
+// A reader over one table's rows: the table it was lent, and its place. Each function over it is thin; what stands at a place is
+// found by functions on a plain slice and a number.
+#![tactic(auto)]
+
 ghost use Rattle.std.specs.Prelude.{◌≡◌, true};
 ghost use Rattle.model.specs.Refusal.{admission};
 ghost use Rattle.door_step.specs.Steps.{step_at, next_at, opened_part, moved, stepped, stepped_at};
@@ -7,13 +9,13 @@ ghost use Rattle.door_step.specs.Steps.{step_at, next_at, opened_part, moved, st
 use door_rows::bytes;
 use model::{Admission, Row, Source};
 
-#[derive(Drop)]
+#[derive(Clone, Copy)]
 pub struct RowReader<'a> {
     pub table: &'a [u8],
     pub at: u16,
 }
 
-#[derive(Drop)]
+#[derive(Clone, Copy)]
 pub struct Opened<'a> {
     pub admission: Admission,
     pub reader: RowReader<'a>,

@@ -277,9 +277,12 @@ module _ (t : Table) (s : ℕ) where
         go y o (one g) = last {x = y} (rw (← at_row t.rows y o, ← at_moment t.rows m) (split g).1)
         go y o (more {m = a} g h q) = next {x = y} {y = a} (rw (← at_row t.rows y o, ← at_row t.rows a h) (split g).1) h (first a h q) (go a h q)
 
+    inter_way : (m : ℕ) {x : ℕ} → Way t ends s m x → inter_thread t s (itself x) m ≡ true
+    inter_way m {x} (last e) = inter_one (itself x) m e
+    inter_way m {x} (next {y = y} e l n q) = inter_more (itself x) (itself y) m e (omega arith) (inter_way m q)
+
     pub way_inter : {x : ℕ} (m : ℕ) → Way t ends s m x → inter_thread t s (itself x) m ≡ true
-    way_inter {x} m (last e) = inter_one (itself x) m e
-    way_inter {x} m (next {y = y} e l n q) = inter_more (itself x) (itself y) m e (omega arith) (way_inter m q)
+    way_inter m = inter_way m
 
     -- ---- from any other moment
 

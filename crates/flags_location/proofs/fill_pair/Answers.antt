@@ -32,7 +32,7 @@ loop-k-preserved c =
     let put = c.put_if in
     let kept = within_put LOCATION LOCATION_END _ _ (omega arith) (omega arith) put.ensures in
     let inv = c.loop-k.invariant in
-    let e = row_fill_put _ _ _ put.new.0 _ _ _ _ inv.3 (c.before_at-b.ensures ∙ nth_is _ _ _ _ _ c.row-r.ensures c.row-q.ensures _) refl put.ensures in (
+    let e = row_fill_put _ _ _ put.new.w _ _ _ _ inv.3 (c.before_at-b.ensures ∙ nth_is _ _ _ _ _ c.row-r.ensures c.row-q.ensures _) refl put.ensures in (
       search rules,
       ap length e ∙ length_row_fill _ _ _ _,
       prepared_kept kept inv.2,

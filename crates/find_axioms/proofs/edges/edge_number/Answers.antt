@@ -1,0 +1,9 @@
+use Rattle.find_axioms.specs.Edges.{number_is}
+use Rattle.find_axioms.proofs.edges.edge_number.Goals as goal
+
+pub returns : goal.returns
+returns c =
+    number_is _ _ _ _ _ _ _ _ _ _ _ _ c.before_some-location.ensures
+    c.follows_at-order.ensures c.reads_from_at-source.ensures
+    c.from_reads_at-reader.ensures c.number-4.ensures c.number-3.ensures
+    c.number-2.ensures c.number.ensures

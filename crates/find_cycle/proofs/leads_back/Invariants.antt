@@ -1,0 +1,13 @@
+use Rattle.finite.specs.Count.{count_below}
+use Rattle.bits.specs.Matrix.{rel}
+use Rattle.model.specs.Limits.{ROWS}
+use Rattle.work_area.specs.Regions.{EDGE, GRID}
+use Rattle.sets_of_rows.specs.Member.{in_set}
+use Rattle.find_cycle.proofs.Closing.{Going}
+use Rattle.find_cycle.proofs.leads_back.Given as goal
+
+abbrev pub invariant-loop-ahead : goal.invariant-loop-ahead
+invariant-loop-ahead l = Going l.n (rel l.w EDGE GRID) l.x l.initial.ahead l.ahead l.left
+
+abbrev pub decreases-loop-ahead : goal.decreases-loop-ahead
+decreases-loop-ahead l = count_below ROWS (in_set l.ahead)

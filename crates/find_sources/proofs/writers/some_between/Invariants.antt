@@ -1,0 +1,10 @@
+use Rattle.run.specs.Layout.{table_in}
+use mathlib.Core.Path.{◌≡◌}
+use Prim.Native.Nat.{◌≤◌}
+use mathlib.Core.Bool.{false}
+use Rattle.finite.specs.Below.{any_below}
+use Rattle.model.specs.Fill.{between}
+use Rattle.find_sources.proofs.writers.some_between.Given as goal
+
+abbrev pub invariant-loop-z : goal.invariant-loop-z
+invariant-loop-z l = (l.z ≤ l.n) × (any_below l.z (between (table_in l.t l.n) l.y l.s) ≡ false)

@@ -1,0 +1,4 @@
+use Rattle.sets_of_table.proofs.fields.classes.Goals as goal
+
+pub returns : goal.returns
+returns c = cc

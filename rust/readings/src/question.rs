@@ -62,12 +62,7 @@ pub struct Readers {
 
 impl Readers {
     pub fn new() -> Readers {
-        let code =
-            ["stramashly_c", "stramashly"].map(|name| crates().join(name).join("src/lib.rt"));
-        let code = code
-            .into_iter()
-            .find(|file| file.exists())
-            .expect("the library's code");
+        let code = crates().join("stramashly_c/src/lib.rt");
         let (page, parts) = contracts(&fs::read_to_string(code).expect("the library's code"));
         let mut program = Program::new(crates());
         program.add(LINKED, &page).expect("the pages");

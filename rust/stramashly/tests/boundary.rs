@@ -21,9 +21,7 @@ fn read(file: impl AsRef<Path>) -> String {
 }
 
 fn source() -> String {
-    let linked = Path::new("crates/stramashly_c/src/lib.rt");
-    let linked = repository().join(linked).exists().then(|| read(linked));
-    read("crates/stramashly/src/lib.rt") + &linked.unwrap_or_default()
+    read("crates/stramashly/src/lib.rt") + &read("crates/stramashly_c/src/lib.rt")
 }
 
 /// The text without `//` comments, its lines joined.

@@ -1,0 +1,10 @@
+use Rattle.run.specs.Layout.{table_in}
+use mathlib.Core.Path.{◌≡◌}
+use mathlib.Core.Bool.{false}
+use Prim.Native.Nat.{◌≤◌}
+use Rattle.finite.specs.Below.{any_below}
+use Rattle.model.specs.Synchronizes.{carries_in}
+use Rattle.ask_accepts.proofs.sync.is_carried_in.Given as goal
+
+abbrev pub invariant-loop-y : goal.invariant-loop-y
+invariant-loop-y l = (l.y ≤ l.n) × (any_below l.y (carries_in (table_in l.t l.n) l.a l.b) ≡ false)

@@ -1,0 +1,50 @@
+use Rattle.ask_derive.proofs.chains.find_set.Goals as goal
+
+-- `find_set` meets its contract: no lower class set has a chain. Assumes nothing.
+use mathlib.Core.Path.{◌≡◌, refl, sym, ◌∙◌}
+use Prim.Native.Nat.{◌-◌, ◌≤◌}
+use native.Mathlib.Omega.{arith}
+use lib.ListN.{length}
+use Rattle.finite.specs.Below.{least, least_none}
+use Rattle.bits.specs.Within.{Within, within_refl, within_trans}
+use Rattle.model.specs.Limits.{CLASS_SETS}
+use Rattle.model.specs.Table.{decode}
+use Rattle.model.specs.Reason.{has_chain_by}
+use Rattle.work_area.specs.Regions.{HAPPENS, CHAINS_END}
+use Rattle.work_area.specs.Synced.{Synced, synced_kept}
+use Rattle.ask_derive.specs.Found.{set_found, set_missed}
+use borrow.Author.Rules.{rules}
+use Rattle.ask_derive.proofs.chains.find_set.Statement.{statement}
+use Rattle.ask_derive.proofs.chains.find_set.Tie as tie
+
+pub loop-c-init : goal.loop-c-init
+loop-c-init c = (search rules, refl, least_none _, c.requires.2, within_refl _ _ _)
+
+pub returns-then-j-n : goal.returns-then-j-n
+unfolding decode
+returns-then-j-n c =
+    let inv = c.loop-c.invariant in
+    let made = c.make_layers.ensures in (
+      set_found refl made.layered _ _ c.requires.0.first c.layer_of-j.ensures.0 inv.2
+          c.loop-c-test.true c.if-j-n.true,
+      within_trans inv.4 made.frame,
+      λ h. made.layered,
+    )
+
+pub loop-c-preserved : goal.loop-c-preserved
+unfolding decode
+loop-c-preserved c =
+    let inv = c.loop-c.invariant in
+    let made = c.make_layers.ensures in (
+      search rules,
+      made.frame.len ∙ inv.1,
+      set_missed refl made.layered _ _ c.requires.0.first c.layer_of-j.ensures.0 inv.2 c.if-j-n.false,
+      synced_kept (omega arith) made.frame inv.3,
+      within_trans inv.4 made.frame,
+    )
+
+pub returns : goal.returns
+returns c =
+    let e : c.loop-c.c ≡ CLASS_SETS = omega arith in
+    let inv = c.loop-c.invariant in
+    (sym (rw e at inv.2), inv.4, λ h. absurd (omega arith))

@@ -1,0 +1,55 @@
+use mathlib.Core.Path.{sym, ◌∙◌}
+use Rattle.model.specs.Table.{decode}
+use Rattle.sets_of_rows.specs.Walk.{walk_less, walk_in, gather_begin, gather_turn, gather_end}
+use Rattle.sets_of_table.specs.Ask.{scope_low}
+use Rattle.sets_grids.specs.Filling.{member_in}
+use Rattle.sets_grids.specs.Grid.{grid_at}
+use Rattle.sets_chains.specs.Filled.{met_off, met_on, met_rows}
+use native.Mathlib.Omega.{arith}
+use Rattle.sets_chains.proofs.available_to.Goals as goal
+
+pub loop-left-init : goal.loop-left-init
+loop-left-init c = gather_begin _ _ (met_off _ _ _ _) _ c.none-at.ensures
+
+pub first-c-requires : goal.first-c-requires
+first-c-requires c = sym c.some.ensures ∙ c.loop-left-test.true
+
+pub but_first-left-requires : goal.but_first-left-requires
+but_first-left-requires c = sym c.some.ensures ∙ c.loop-left-test.true
+
+pub scope-requires : goal.scope-requires
+scope-requires c = c.first-c.ensures.bound
+
+pub sharing-domain-requires : goal.sharing-domain-requires
+unfolding decode
+sharing-domain-requires c =
+    let pre = c.requires in
+    let m = member_in _ pre.0.ends (walk_in c.loop-left.invariant.0 c.first-c.ensures) in
+    let a = scope_low pre.1.opened _ m.0 in
+    let e = c.scope.ensures in
+    (pre.0.low, omega arith, pre.1.opened)
+
+pub get-requires : goal.get-requires
+get-requires c =
+    omega (arith, c.first-c.ensures.bound, c.requires.1.room)
+
+pub has-requires : goal.has-requires
+has-requires c =
+    c.first-c.ensures.bound
+
+pub loop-left-smaller : goal.loop-left-smaller
+loop-left-smaller c =
+    walk_less c.first-c.ensures c.but_first-left.ensures
+
+pub loop-left-preserved : goal.loop-left-preserved
+unfolding decode
+loop-left-preserved c =
+    let pre = c.requires in
+    let m = member_in _ pre.0.ends (walk_in c.loop-left.invariant.0 c.first-c.ensures) in
+    let f = c.sharing-domain.ensures in
+    gather_turn _ _ (met_off _ _ _ _) c.loop-left.invariant c.first-c.ensures c.but_first-left.ensures
+    (met_on _ _ _ _ _ _ _ _ _ _ _ _ m.0 (rw c.scope.ensures at f) (grid_at pre.2.rows m.0 c.get.ensures) c.and-to.ensures c.has.ensures c.only_if.ensures c.or-at.ensures)
+
+pub returns : goal.returns
+returns c =
+    met_rows c.requires.1.opened _ _ _ c.requires.0.ends (gather_end _ _ (met_off _ _ _ _) _ _ (sym c.some.ensures ∙ c.loop-left-test.false) c.loop-left.invariant.1)

@@ -1,0 +1,14 @@
+use mathlib.Core.Path.{◌≡◌}
+use Prim.Native.Nat.{◌-◌}
+use lib.ListN.{length}
+use Rattle.model.specs.Limits.{ROWS}
+use Rattle.run.specs.Layout.{table_in}
+use Rattle.sets_of_rows.specs.First.{next}
+use Rattle.sets_chains.specs.Chained.{InTurning}
+use Rattle.sets_chains.proofs.chain_in.Given as goal
+
+abbrev pub invariant-loop-narrow : goal.invariant-loop-narrow
+invariant-loop-narrow l = (length l.w ≡ length l.initial.w) × InTurning (table_in l.t l.n) l.n l.q l.initial.left l.initial.w l.left l.w
+
+abbrev pub decreases-loop-narrow : goal.decreases-loop-narrow
+decreases-loop-narrow l = ROWS - next l.left

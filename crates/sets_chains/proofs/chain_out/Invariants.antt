@@ -1,0 +1,14 @@
+use mathlib.Core.Path.{◌≡◌}
+use Prim.Native.Nat.{◌-◌}
+use lib.ListN.{length}
+use Rattle.model.specs.Limits.{ROWS}
+use Rattle.run.specs.Layout.{table_in}
+use Rattle.sets_of_rows.specs.First.{next}
+use Rattle.sets_chains.specs.Chained.{OutTurning}
+use Rattle.sets_chains.proofs.chain_out.Given as goal
+
+abbrev pub invariant-loop-broad : goal.invariant-loop-broad
+invariant-loop-broad l = (length l.w ≡ length l.initial.w) × OutTurning (table_in l.t l.n) l.n l.q l.initial.left l.initial.w l.left l.w
+
+abbrev pub decreases-loop-broad : goal.decreases-loop-broad
+decreases-loop-broad l = ROWS - next l.left

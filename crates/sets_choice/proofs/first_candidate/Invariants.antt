@@ -1,0 +1,15 @@
+use mathlib.Core.Path.{◌≡◌}
+use Prim.Native.Nat.{◌-◌}
+use Rattle.finite.specs.Below.{least}
+use Rattle.model.specs.Limits.{ROWS}
+use Rattle.run.specs.Layout.{table_in}
+use Rattle.sets_of_rows.specs.First.{next}
+use Rattle.sets_of_rows.specs.Walk.{Walk}
+use Rattle.sets_choice.specs.Choosing.{candidate_in}
+use Rattle.sets_choice.proofs.first_candidate.Given as goal
+
+abbrev pub invariant-loop-blank : goal.invariant-loop-blank
+invariant-loop-blank l = Walk l.blank.writers l.left × (least (next l.left) (candidate_in (table_in l.t l.n) l.n l.blank.y) ≡ next l.left)
+
+abbrev pub decreases-loop-blank : goal.decreases-loop-blank
+decreases-loop-blank l = ROWS - next l.left

@@ -1,0 +1,15 @@
+use mathlib.Core.Path.{◌≡◌}
+use Prim.Native.Nat.{◌-◌}
+use Rattle.finite.specs.Below.{least}
+use Rattle.model.specs.Limits.{ROWS}
+use Rattle.run.specs.Layout.{table_in}
+use Rattle.sets_of_rows.specs.First.{next}
+use Rattle.sets_of_rows.specs.Walk.{Walk}
+use Rattle.sets_choice.specs.Choosing.{between_in}
+use Rattle.sets_choice.proofs.some_between.Given as goal
+
+abbrev pub invariant-loop-blank : goal.invariant-loop-blank
+invariant-loop-blank l = Walk l.initial.left l.left × (least (next l.left) (between_in (table_in l.t l.n) l.n l.blank.y l.source) ≡ next l.left)
+
+abbrev pub decreases-loop-blank : goal.decreases-loop-blank
+decreases-loop-blank l = ROWS - next l.left

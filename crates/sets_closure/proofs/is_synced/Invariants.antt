@@ -1,0 +1,15 @@
+use mathlib.Core.Path.{◌≡◌}
+use Prim.Native.Nat.{◌-◌}
+use Rattle.finite.specs.Below.{least}
+use Rattle.model.specs.Limits.{ROWS}
+use Rattle.run.specs.Layout.{table_in}
+use Rattle.sets_of_rows.specs.First.{next}
+use Rattle.sets_of_rows.specs.Walk.{Walk}
+use Rattle.sets_closure.specs.Widest.{synced_from}
+use Rattle.sets_closure.proofs.is_synced.Given as goal
+
+abbrev pub invariant-loop-k : goal.invariant-loop-k
+invariant-loop-k l = Walk l.initial.left l.left × (least (next l.left) (synced_from (table_in l.t l.n) l.n l.k) ≡ next l.left)
+
+abbrev pub decreases-loop-k : goal.decreases-loop-k
+decreases-loop-k l = ROWS - next l.left

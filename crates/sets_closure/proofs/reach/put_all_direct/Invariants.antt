@@ -1,0 +1,15 @@
+use Prim.Native.Nat.{◌-◌}
+use Rattle.model.specs.Limits.{ROWS}
+use Rattle.sets_of_rows.specs.First.{next}
+use Rattle.bits.specs.Within.{Within}
+use Rattle.sets_grids.specs.Regions.{REACH_AT, REACH_END}
+use Rattle.run.specs.Layout.{table_in}
+use Rattle.sets_of_rows.specs.Walk.{Walk}
+use Rattle.sets_closure.specs.Reaching.{Putting}
+use Rattle.sets_closure.proofs.reach.put_all_direct.Given as goal
+
+abbrev pub invariant-loop-k : goal.invariant-loop-k
+invariant-loop-k l = Within REACH_AT REACH_END l.initial.w l.w × (Walk l.k.nodes l.left × Putting (table_in l.t l.n) l.n l.k l.initial.w (next l.left) l.w)
+
+abbrev pub decreases-loop-k : goal.decreases-loop-k
+decreases-loop-k l = ROWS - next l.left

@@ -1,0 +1,15 @@
+use mathlib.Core.Path.{◌≡◌}
+use Prim.Native.Nat.{◌-◌}
+use lib.ListN.{length}
+use Rattle.model.specs.Limits.{ROWS}
+use Rattle.run.specs.Layout.{table_in}
+use Rattle.find_axioms.specs.Sources.{source_in}
+use Rattle.sets_of_rows.specs.First.{next}
+use Rattle.sets_edges.specs.Edges.{Edging}
+use Rattle.sets_edges.proofs.fill_edges.Given as goal
+
+abbrev pub invariant-loop-left : goal.invariant-loop-left
+invariant-loop-left l = (length l.w ≡ length l.initial.w) × Edging (table_in l.t l.n) (source_in l.src) l.n l.initial.left l.left l.initial.w l.w
+
+abbrev pub decreases-loop-left : goal.decreases-loop-left
+decreases-loop-left l = ROWS - next l.left

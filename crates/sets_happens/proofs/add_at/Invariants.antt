@@ -1,0 +1,18 @@
+use Rattle.run.specs.Layout.{table_in}
+use Rattle.bits.specs.Within.{Within}
+use Rattle.sets_grids.specs.Regions.{HAPPENS, AVAILABLE_AT}
+use Rattle.sets_happens.specs.Adding.{Adding}
+use Prim.Native.Nat.{◌-◌}
+use lib.Dec.{ltb}
+use Rattle.finite.specs.Logic.{◌and◌}
+use Rattle.model.specs.Limits.{ROWS}
+use Rattle.sets_of_rows.specs.First.{next}
+use Rattle.model.specs.Moment.{itself}
+use Rattle.model.specs.Happens.{inter_thread}
+use Rattle.sets_happens.proofs.add_at.Given as goal
+
+abbrev pub invariant-loop-k : goal.invariant-loop-k
+invariant-loop-k l = Adding HAPPENS l.initial.left (λ i j. ltb j l.n and inter_thread (table_in l.t l.n) l.c (itself i) (itself j)) l.initial.w l.left l.w × Within HAPPENS AVAILABLE_AT l.initial.w l.w
+
+abbrev pub decreases-loop-k : goal.decreases-loop-k
+decreases-loop-k l = ROWS - next l.left

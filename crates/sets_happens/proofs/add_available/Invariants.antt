@@ -1,0 +1,17 @@
+use Rattle.run.specs.Layout.{table_in}
+use Rattle.bits.specs.Within.{Within}
+use Rattle.sets_grids.specs.Regions.{AVAILABLE_AT, AVAILABLE_VISIBLE, AVAILABLE_AVAILABLE, VISIBLE_VISIBLE}
+use Rattle.sets_happens.specs.Adding.{Adding}
+use Prim.Native.Nat.{◌-◌}
+use lib.Dec.{ltb}
+use Rattle.finite.specs.Logic.{◌and◌}
+use Rattle.model.specs.Limits.{ROWS}
+use Rattle.sets_of_rows.specs.First.{next}
+use Rattle.sets_happens.specs.Behind.{available_to, available_visible, available_available}
+use Rattle.sets_happens.proofs.add_available.Given as goal
+
+abbrev pub invariant-loop-k : goal.invariant-loop-k
+invariant-loop-k l = Adding AVAILABLE_AT l.initial.left (λ a j. ltb j l.n and available_to (table_in l.t l.n) l.c a j) l.initial.w l.left l.w × Adding AVAILABLE_VISIBLE l.initial.left (λ a j. ltb j l.n and available_visible (table_in l.t l.n) l.c a j) l.initial.w l.left l.w × Adding AVAILABLE_AVAILABLE l.initial.left (λ a j. ltb j l.n and available_available (table_in l.t l.n) l.c a j) l.initial.w l.left l.w × Within AVAILABLE_AT VISIBLE_VISIBLE l.initial.w l.w
+
+abbrev pub decreases-loop-k : goal.decreases-loop-k
+decreases-loop-k l = ROWS - next l.left

@@ -1,0 +1,17 @@
+use Rattle.run.specs.Layout.{table_in}
+use Rattle.bits.specs.Within.{Within}
+use Rattle.sets_grids.specs.Regions.{HAPPENS_END, VISIBLE_VISIBLE}
+use Rattle.sets_happens.specs.Adding.{Adding}
+use Prim.Native.Nat.{◌-◌}
+use lib.Dec.{ltb}
+use Rattle.finite.specs.Logic.{◌and◌}
+use Rattle.model.specs.Limits.{ROWS}
+use Rattle.sets_of_rows.specs.First.{next}
+use Rattle.sets_happens.specs.Behind.{visible_visible}
+use Rattle.sets_happens.proofs.add_visible.Given as goal
+
+abbrev pub invariant-loop-k : goal.invariant-loop-k
+invariant-loop-k l = Adding VISIBLE_VISIBLE l.initial.left (λ v j. ltb j l.n and visible_visible (table_in l.t l.n) l.c v j) l.initial.w l.left l.w × Within VISIBLE_VISIBLE HAPPENS_END l.initial.w l.w
+
+abbrev pub decreases-loop-k : goal.decreases-loop-k
+decreases-loop-k l = ROWS - next l.left

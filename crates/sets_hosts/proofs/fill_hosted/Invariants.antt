@@ -1,0 +1,18 @@
+use mathlib.Core.Path.{◌≡◌}
+use Prim.Native.Nat.{◌-◌}
+use lib.ListN.{length}
+use lib.Dec.{ltb}
+use Rattle.finite.specs.Logic.{◌and◌}
+use Rattle.model.specs.Limits.{ROWS}
+use Rattle.sets_of_rows.specs.First.{next}
+use Rattle.run.specs.Layout.{table_in}
+use Rattle.sets_of_rows.specs.Filling.{Filling}
+use Rattle.sets_grids.specs.Regions.{HOSTED}
+use Rattle.sets_grids.specs.Hosted.{hosted_by}
+use Rattle.sets_hosts.proofs.fill_hosted.Given as goal
+
+abbrev pub invariant-loop-left : goal.invariant-loop-left
+invariant-loop-left l = (length l.w ≡ length l.initial.w) × Filling HOSTED l.initial.left (λ i j. ltb j l.n and hosted_by (table_in l.t l.n) i j) l.initial.w l.left l.w
+
+abbrev pub decreases-loop-left : goal.decreases-loop-left
+decreases-loop-left l = ROWS - next l.left

@@ -1,0 +1,14 @@
+use Prim.Native.Nat.{◌-◌}
+use Rattle.model.specs.Limits.{ROWS}
+use Rattle.run.specs.Layout.{table_in}
+use Rattle.bits.specs.Bit.{bit_of}
+use Rattle.sets_of_rows.specs.First.{next}
+use Rattle.sets_of_rows.specs.Walk.{Walk}
+use Rattle.sets_location.specs.Bytes.{MoreTo, byte_seen}
+use Rattle.sets_location.proofs.part.bytes_seen.Given as goal
+
+abbrev pub invariant-loop-wide : goal.invariant-loop-wide
+invariant-loop-wide l = Walk l.initial.left l.left × MoreTo (bit_of l.initial.m) (byte_seen (table_in l.t l.n) l.w l.x l.wide l.plain l.initial.left) l.m (next l.left)
+
+abbrev pub decreases-loop-wide : goal.decreases-loop-wide
+decreases-loop-wide l = ROWS - next l.left

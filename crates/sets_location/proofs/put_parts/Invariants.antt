@@ -1,0 +1,14 @@
+use Prim.Native.Nat.{◌-◌}
+use Rattle.model.specs.Limits.{ROWS}
+use Rattle.run.specs.Layout.{table_in}
+use Rattle.sets_of_rows.specs.First.{next}
+use Rattle.sets_of_rows.specs.Walk.{Walk}
+use Rattle.sets_location.specs.Adds.{AddsRow, parts_of}
+use Rattle.sets_location.specs.Put.{cut}
+use Rattle.sets_location.proofs.put_parts.Given as goal
+
+abbrev pub invariant-loop-g : goal.invariant-loop-g
+invariant-loop-g l = Walk l.initial.left l.left × AddsRow l.n l.x (cut (parts_of (table_in l.t l.n) l.x l.initial.left) (next l.left)) l.initial.w l.w
+
+abbrev pub decreases-loop-g : goal.decreases-loop-g
+decreases-loop-g l = ROWS - next l.left

@@ -1,0 +1,17 @@
+use Rattle.run.specs.Layout.{table_in}
+use Rattle.bits.specs.Within.{Within}
+use Rattle.model_closing.specs.Sets.{reached_at}
+use Rattle.sets_grids.specs.Regions.{SYSTEM, SYSTEM_END}
+use Rattle.sets_happens.specs.Adding.{Adding}
+use Prim.Native.Nat.{◌-◌}
+use lib.Dec.{ltb}
+use Rattle.finite.specs.Logic.{◌and◌}
+use Rattle.model.specs.Limits.{ROWS}
+use Rattle.sets_of_rows.specs.First.{next}
+use Rattle.sets_order.proofs.system.fill_system.Given as goal
+
+abbrev pub invariant-loop-left : goal.invariant-loop-left
+invariant-loop-left l = Adding SYSTEM l.initial.left (λ i j. ltb j l.n and reached_at (table_in l.t l.n) 16 i j) l.initial.w l.left l.w × Within SYSTEM SYSTEM_END l.initial.w l.w
+
+abbrev pub decreases-loop-left : goal.decreases-loop-left
+decreases-loop-left l = ROWS - next l.left

@@ -1,0 +1,19 @@
+use mathlib.Core.Path.{◌≡◌}
+use Prim.Native.Nat.{◌-◌}
+use lib.ListN.{length}
+use lib.Dec.{ltb}
+use Rattle.finite.specs.Logic.{◌and◌}
+use Rattle.model.specs.Limits.{ROWS}
+use Rattle.run.specs.Layout.{table_in}
+use Rattle.sets_of_rows.specs.First.{next}
+use Rattle.sets_of_rows.specs.Filling.{Filling}
+use Rattle.work_area.specs.Regions.{OVERLAP}
+use Rattle.work_area.specs.State.{overlaps}
+use Rattle.sets_overlap.specs.Overlap.{Near}
+use Rattle.sets_overlap.proofs.fill_overlaps.Given as goal
+
+abbrev pub invariant-loop-near : goal.invariant-loop-near
+invariant-loop-near l = (length l.w ≡ length l.initial.w) × Filling OVERLAP l.initial.left (λ i j. ltb j l.n and overlaps (table_in l.t l.n) i j) l.initial.w l.left l.w × Near (table_in l.t l.n) l.n l.near
+
+abbrev pub decreases-loop-near : goal.decreases-loop-near
+decreases-loop-near l = ROWS - next l.left

@@ -1,0 +1,61 @@
+use mathlib.Core.Path.{sym, ◌∙◌}
+use Rattle.model.specs.Table.{decode}
+use Rattle.find_axioms.specs.Sources.{source_in}
+use Rattle.sets_of_rows.specs.Walk.{walk_less, walk_in, search_begin, search_turn, search_found, search_end}
+use Rattle.sets_of_rows.specs.Rows.{rows_at}
+use Rattle.sets_of_table.specs.Known.{says_rows}
+use Rattle.sets_of_table.specs.Ask.{few}
+use Rattle.sets_grids.specs.Filling.{member_in}
+use Rattle.sets_overwritten.specs.Over.{reader_off, reader_source, reader_none, reader_hit, reader_found, reader_nothing}
+use native.Mathlib.Omega.{arith}
+use Rattle.sets_overwritten.proofs.first_overwrite.Goals as goal
+
+pub rows-left-requires : goal.rows-left-requires
+rows-left-requires c = let a = c.requires.1.given.opened.space in omega arith
+
+pub loop-left-init : goal.loop-left-init
+loop-left-init c = search_begin _ _ (reader_off _ (source_in c.args.src.now) _ (rows_at c.rows-left.ensures (says_rows c.requires.1.given.opened.known.tested.accesses.reads)))
+
+pub first-y-requires : goal.first-y-requires
+first-y-requires c = sym c.some.ensures ∙ c.loop-left-test.true
+
+pub but_first-left-requires : goal.but_first-left-requires
+but_first-left-requires c = sym c.some.ensures ∙ c.loop-left-test.true
+
+pub bounds-src-y : goal.bounds-src-y
+bounds-src-y c =
+    let m = member_in _ (rows_at c.rows-left.ensures (says_rows c.requires.1.given.opened.known.tested.accesses.reads)) (walk_in c.loop-left.invariant.0 c.first-y.ensures) in let l = m.0 in let e = c.requires.0 in omega (arith, l, e)
+
+pub overflow_cast-source : goal.overflow_cast-source
+overflow_cast-source c = omega (arith, c.type_inv.src c.first-y.result)
+
+pub overwritten_by-o-requires : goal.overwritten_by-o-requires
+unfolding decode
+overwritten_by-o-requires c =
+    let m = member_in _ (rows_at c.rows-left.ensures (says_rows c.requires.1.given.opened.known.tested.accesses.reads)) (walk_in c.loop-left.invariant.0 c.first-y.ensures) in (c.if-source-n.true, record { low = m.0; is = m.1 }, c.requires.1)
+
+pub loop-left-smaller-in-Nothing-1 : goal.loop-left-smaller-in-Nothing-1
+loop-left-smaller-in-Nothing-1 c =
+    walk_less c.first-y.ensures c.but_first-left.ensures
+
+pub loop-left-preserved-in-Nothing-1 : goal.loop-left-preserved-in-Nothing-1
+loop-left-preserved-in-Nothing-1 c =
+    search_turn _ _ (reader_off _ (source_in c.args.src.now) _ (rows_at c.rows-left.ensures (says_rows c.requires.1.given.opened.known.tested.accesses.reads))) c.loop-left.invariant c.first-y.ensures c.but_first-left.ensures (reader_none _ (source_in c.args.src.now) _ _ _ c.overwritten_by-o.ensures c.in-Nothing.is)
+
+pub returns-in_default : goal.returns-in_default
+returns-in_default c =
+    let m = member_in _ (rows_at c.rows-left.ensures (says_rows c.requires.1.given.opened.known.tested.accesses.reads)) (walk_in c.loop-left.invariant.0 c.first-y.ensures) in
+    let o = c.overwritten_by-o.ensures in
+    let hit = reader_hit _ (source_in c.args.src.now) _ _ _ m.0 m.1 o c.in_default.is in
+    reader_found _ (source_in c.args.src.now) _ c.requires.1.given.opened.fit.sized c.requires.1.given.opened.rows _ _ m.0 (search_found _ _ (reader_off _ (source_in c.args.src.now) _ (rows_at c.rows-left.ensures (says_rows c.requires.1.given.opened.known.tested.accesses.reads))) c.loop-left.invariant c.first-y.ensures hit) hit o
+
+pub loop-left-smaller : goal.loop-left-smaller
+loop-left-smaller c = walk_less c.first-y.ensures c.but_first-left.ensures
+
+pub loop-left-preserved : goal.loop-left-preserved
+loop-left-preserved c =
+    search_turn _ _ (reader_off _ (source_in c.args.src.now) _ (rows_at c.rows-left.ensures (says_rows c.requires.1.given.opened.known.tested.accesses.reads))) c.loop-left.invariant c.first-y.ensures c.but_first-left.ensures (reader_source _ (source_in c.args.src.now) _ c.requires.1.given.opened.rows _ c.if-source-n.false)
+
+pub returns : goal.returns
+returns c =
+    reader_nothing _ (source_in c.args.src.now) _ c.requires.1.given.opened.fit.sized c.requires.1.given.opened.rows (few c.requires.1.given.opened) (search_end _ _ (reader_off _ (source_in c.args.src.now) _ (rows_at c.rows-left.ensures (says_rows c.requires.1.given.opened.known.tested.accesses.reads))) _ (sym c.some.ensures ∙ c.loop-left-test.false) c.loop-left.invariant.1)

@@ -1,0 +1,15 @@
+use mathlib.Core.Path.{◌≡◌}
+use Prim.Native.Nat.{◌-◌}
+use Rattle.model.specs.Limits.{ROWS}
+use Rattle.model.specs.Report.{conflict_ordered}
+use Rattle.run.specs.Layout.{table_in}
+use Rattle.sets_of_rows.specs.First.{next}
+use Rattle.sets_of_rows.specs.Walk.{Walk}
+use Rattle.sets_races.specs.Sums.{above, sum_below, one_of}
+use Rattle.sets_races.proofs.count_ordered.Given as goal
+
+abbrev pub invariant-loop-left : goal.invariant-loop-left
+invariant-loop-left l = Walk l.initial.left l.left × (l.count ≡ sum_below (next l.left) (one_of l.n (above (conflict_ordered (table_in l.t l.n)) l.i)))
+
+abbrev pub decreases-loop-left : goal.decreases-loop-left
+decreases-loop-left l = ROWS - next l.left

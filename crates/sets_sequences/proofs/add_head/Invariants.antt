@@ -1,0 +1,15 @@
+use mathlib.Core.Path.{◌≡◌}
+use Prim.Native.Nat.{◌-◌}
+use lib.ListN.{length}
+use Rattle.model.specs.Limits.{ROWS}
+use Rattle.run.specs.Layout.{table_in}
+use Rattle.sets_of_rows.specs.First.{next}
+use Rattle.sets_of_rows.specs.Walk.{Walk}
+use Rattle.sets_sequences.specs.Heads.{HeadedTo}
+use Rattle.sets_sequences.proofs.add_head.Given as goal
+
+abbrev pub invariant-loop-left : goal.invariant-loop-left
+invariant-loop-left l = (length l.w ≡ length l.initial.w) × (Walk l.initial.left l.left × HeadedTo (table_in l.t l.n) l.n l.h (next l.left) l.initial.w l.w)
+
+abbrev pub decreases-loop-left : goal.decreases-loop-left
+decreases-loop-left l = ROWS - next l.left

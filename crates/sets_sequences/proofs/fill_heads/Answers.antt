@@ -1,0 +1,84 @@
+use mathlib.Core.Path.{sym, ◌∙◌}
+use native.Mathlib.Omega.{arith}
+use Rattle.bits.specs.Within.{within_refl, within_trans, within_widen, within_cleared}
+use Rattle.sets_of_rows.specs.Walk.{walk_less, walk_in}
+use Rattle.sets_of_rows.specs.Rows.{rows_at}
+use Rattle.sets_of_table.specs.Known.{says_rows}
+use Rattle.sets_of_table.specs.Ask.{few}
+use Rattle.sets_grids.specs.Regions.{HEADS, HEADS_END}
+use Rattle.sets_grids.specs.Grid.{grid_kept}
+use Rattle.sets_grids.specs.Given.{given_kept}
+use Rattle.sets_grids.specs.Filling.{member_in}
+use Rattle.sets_sequences.specs.Heads.{heads_begin, heads_turn, heads_end, cleared, ranks_of}
+use borrow.Author.Rules.{rules}
+use Rattle.sets_sequences.proofs.fill_heads.Goals as goal
+
+pub rows-left-requires : goal.rows-left-requires
+rows-left-requires c =
+    let a = c.requires.0.opened.space in omega arith
+
+pub loop-left-init : goal.loop-left-init
+loop-left-init c =
+    let o = c.requires.0.opened in
+    let small = few o in
+    (within_refl _ _ _, heads_begin _ _ small _ (rows_at c.rows-left.ensures (says_rows o.known.tested.kinds.ranked)) (λ k j l. cleared HEADS _ (search rules) c.clear.ensures k j (omega arith)))
+
+pub first-h-requires : goal.first-h-requires
+first-h-requires c = sym c.some.ensures ∙ c.loop-left-test.true
+
+pub but_first-left-requires : goal.but_first-left-requires
+but_first-left-requires c = sym c.some.ensures ∙ c.loop-left-test.true
+
+pub put_bit-requires : goal.put_bit-requires
+put_bit-requires c =
+    let b = c.first-h.ensures.bound in
+    let f = within_trans (within_cleared HEADS HEADS_END (omega arith) c.clear.ensures) c.loop-left.invariant.0 in
+    let e = f.len in
+    let r = c.requires.0.room in
+    (omega arith, b)
+
+pub end_of-end-requires : goal.end_of-end-requires
+end_of-end-requires c =
+    let pre = c.requires in
+    let o = pre.0.opened in
+    let small = few o in
+    let b = c.first-h.ensures.bound in
+    let m = member_in _ (rows_at c.rows-left.ensures (says_rows o.known.tested.kinds.ranked)) (walk_in c.loop-left.invariant.1.0 c.first-h.ensures) in
+    let f = within_trans (within_trans (within_cleared HEADS HEADS_END (omega arith) c.clear.ensures) c.loop-left.invariant.0) (within_widen HEADS HEADS_END (omega arith) (omega arith) c.put_bit.ensures.frame) in
+    (m.0, given_kept f pre.0, grid_kept (λ h. absurd (omega arith)) f pre.1)
+
+pub add_head-requires : goal.add_head-requires
+add_head-requires c =
+    let pre = c.requires in
+    let o = pre.0.opened in
+    let small = few o in
+    let b = c.first-h.ensures.bound in
+    let m = member_in _ (rows_at c.rows-left.ensures (says_rows o.known.tested.kinds.ranked)) (walk_in c.loop-left.invariant.1.0 c.first-h.ensures) in
+    let f = within_trans (within_trans (within_cleared HEADS HEADS_END (omega arith) c.clear.ensures) c.loop-left.invariant.0) (within_widen HEADS HEADS_END (omega arith) (omega arith) c.put_bit.ensures.frame) in
+    let bytes = rw c.rows_of.ensures at c.first_byte.ensures in
+    (record { low = m.0; ends = c.end_of-end.ensures; ranks = ranks_of _ _ _ _ bytes }, given_kept f pre.0, grid_kept (λ h. absurd (omega arith)) f pre.1)
+
+pub loop-left-smaller : goal.loop-left-smaller
+loop-left-smaller c =
+    walk_less c.first-h.ensures c.but_first-left.ensures
+
+pub loop-left-preserved : goal.loop-left-preserved
+loop-left-preserved c =
+    let o = c.requires.0.opened in
+    let b = c.first-h.ensures.bound in
+    let inv = c.loop-left.invariant in
+    let put = c.put_bit.ensures in
+    let add = c.add_head.ensures in (
+      within_trans (within_trans inv.0 (within_widen HEADS HEADS_END (omega arith) (omega arith) put.frame)) add.frame,
+      heads_turn _ _ (few o) _ (rows_at c.rows-left.ensures (says_rows o.known.tested.kinds.ranked)) inv.1 c.first-h.ensures c.but_first-left.ensures put add,
+    )
+
+pub shape_of-w : goal.shape_of-w
+shape_of-w c =
+    let f = within_trans (within_cleared HEADS HEADS_END (omega arith) c.clear.ensures) c.loop-left.invariant.0 in
+    f.len
+
+pub returns : goal.returns
+returns c =
+    let o = c.requires.0.opened in
+    heads_end _ _ (few o) _ (rows_at c.rows-left.ensures (says_rows o.known.tested.kinds.ranked)) _ (sym c.some.ensures ∙ c.loop-left-test.false) c.loop-left.invariant.1.1 (within_trans (within_cleared HEADS HEADS_END (omega arith) c.clear.ensures) c.loop-left.invariant.0)

@@ -1,0 +1,45 @@
+use mathlib.Core.Path.{refl, sym, ◌∙◌}
+use native.Mathlib.Omega.{arith}
+use Rattle.sets_of_rows.specs.Walk.{walk_less}
+use Rattle.sets_sequences.specs.Taken.{heads_of, take_begin, take_turn, take_end}
+use Rattle.sets_sequences.proofs.taken.join_heads.Goals as goal
+
+pub get-requires : goal.get-requires
+get-requires c = let pre = c.requires in omega (arith, pre.few, pre.writer, pre.room)
+
+pub get-requires-2 : goal.get-requires-2
+get-requires-2 c = let pre = c.requires in omega (arith, pre.few, pre.reader, pre.room)
+
+pub loop-x-init : goal.loop-x-init
+loop-x-init c =
+    let pre = c.requires in
+    (refl, take_begin _ _ _ _ pre.few _ (heads_of _ pre.heads pre.mutuals _ _ _ _ _ pre.reader pre.writer c.get.ensures c.get-2.ensures c.and-left.ensures) _)
+
+pub first-h-requires : goal.first-h-requires
+first-h-requires c = sym c.some.ensures ∙ c.loop-x-test.true
+
+pub but_first-left-requires : goal.but_first-left-requires
+but_first-left-requires c = sym c.some.ensures ∙ c.loop-x-test.true
+
+pub join-requires : goal.join-requires
+join-requires c =
+    omega (arith, c.first-h.ensures.bound, c.loop-x.invariant.0, c.requires.room)
+
+pub loop-x-smaller : goal.loop-x-smaller
+loop-x-smaller c =
+    walk_less c.first-h.ensures c.but_first-left.ensures
+
+pub loop-x-preserved : goal.loop-x-preserved
+loop-x-preserved c =
+    let pre = c.requires in
+    let inv = c.loop-x.invariant in
+    let join = c.join.ensures in
+    (join.frame.len ∙ inv.0, take_turn _ _ _ _ pre.few _ (heads_of _ pre.heads pre.mutuals _ _ _ _ _ pre.reader pre.writer c.get.ensures c.get-2.ensures c.and-left.ensures) _ inv.1 c.first-h.ensures c.but_first-left.ensures pre.getters join)
+
+pub shape_of-w : goal.shape_of-w
+shape_of-w c = c.loop-x.invariant.0
+
+pub returns : goal.returns
+returns c =
+    let pre = c.requires in
+    take_end _ _ _ _ pre.few _ (heads_of _ pre.heads pre.mutuals _ _ _ _ _ pre.reader pre.writer c.get.ensures c.get-2.ensures c.and-left.ensures) _ (sym c.some.ensures ∙ c.loop-x-test.false) c.loop-x.invariant.1.1

@@ -1,0 +1,15 @@
+use mathlib.Core.Path.{◌≡◌}
+use Prim.Native.Nat.{◌-◌}
+use lib.ListN.{length}
+use Rattle.model.specs.Limits.{ROWS}
+use Rattle.run.specs.Layout.{table_in}
+use Rattle.sets_of_rows.specs.First.{next}
+use Rattle.sets_of_rows.specs.Walk.{Walk}
+use Rattle.sets_sequences.specs.Taken.{TakesTo}
+use Rattle.sets_sequences.proofs.taken.join_heads.Given as goal
+
+abbrev pub invariant-loop-x : goal.invariant-loop-x
+invariant-loop-x l = (length l.w ≡ length l.initial.w) × (Walk l.initial.left l.left × TakesTo (table_in l.t l.n) l.n l.y l.source (next l.left) l.initial.w l.w)
+
+abbrev pub decreases-loop-x : goal.decreases-loop-x
+decreases-loop-x l = ROWS - next l.left

@@ -1,23 +1,24 @@
 // The answer to a `fill` line.
 use model::FillAnswer;
+use std::io;
 
-fn print_answer(a: FillAnswer, rows: u8, sources: &[u16]) {
+fn print_answer(rt: &impl Print, a: FillAnswer, rows: u8, sources: &[u16]) -> io::Result<()> {
     match a {
-        FillAnswer::Refused { number, row } => crate::print::refused(number, row),
+        FillAnswer::Refused { number, row } => crate::print::refused(rt, number, row)?,
         FillAnswer::Race {
             first,
             second,
             byte,
-        } => crate::print::found(b"race", first, second, byte),
-        FillAnswer::None => crate::print::word(b"none"),
-        FillAnswer::Filled => print_sources(rows, sources),
+        } => crate::print::found(rt, b"race", first, second, byte)?,
+        FillAnswer::None => crate::print::word(rt, b"none")?,
+        FillAnswer::Filled => print_sources(rt, rows, sources)?,
     }
-    crate::print::line_end();
+    crate::print::line_end(rt)
 }
 
-fn print_sources(rows: u8, sources: &[u16]) {
-    crate::print::word(b"filled");
-    crate::print::numbers(sources, 0, rows as usize);
+fn print_sources(rt: &impl Print, rows: u8, sources: &[u16]) -> io::Result<()> {
+    crate::print::word(rt, b"filled")?;
+    crate::print::numbers(rt, sources, 0, rows as usize)
 }
 
 // The count of rows that a table names.
@@ -25,9 +26,9 @@ fn rows_of(table: &[u8]) -> u8 {
     if 6 < table.len() { table[6] } else { 0 }
 }
 
-pub fn answer(table: &[u8]) {
+pub fn answer(rt: &impl Print, table: &[u8]) -> io::Result<()> {
     let mut work = [crate::checks::DIRT; 8192];
     let mut sources = [0u16; 128];
     let a = ask_fill::fill(table, false, &mut work, &mut sources);
-    print_answer(a, rows_of(table), &sources);
+    print_answer(rt, a, rows_of(table), &sources)
 }

@@ -1,4 +1,5 @@
 // A line of the input: a word and the hex digits of a table. The bytes of the digits are put into a lent table as they come.
+use std::io;
 
 // The longest table has 2570 bytes. Digits past the end of the lent bytes are dropped: what is left is still too long.
 const MOST_DIGITS: u16 = 8192;
@@ -59,51 +60,52 @@ fn take_digit(line: Line, d: u8, table: &mut [u8; 4096]) -> Line {
 }
 
 // The answer to a line that has ended. A line with no word has none.
-fn answer(line: Line, table: &[u8]) {
-    let n = io::count((line.digits / 2) as isize, table);
+fn answer(rt: &impl Print, line: Line, table: &[u8]) -> io::Result<()> {
+    let n = ((line.digits / 2) as usize).min(table.len());
     if line.word == b'c' {
-        crate::checks::answer(&table[..n]);
+        crate::checks::answer(rt, &table[..n])?;
     }
     if line.word == b'f' {
-        crate::fills::answer(&table[..n]);
+        crate::fills::answer(rt, &table[..n])?;
     }
+    Ok(())
 }
 
 // The line after one more byte.
-pub fn take_byte(line: Line, b: u8, table: &mut [u8; 4096]) -> Line {
+pub fn take_byte(rt: &impl Print, line: Line, b: u8, table: &mut [u8; 4096]) -> io::Result<Line> {
     if b == b'\n' {
-        answer(line, table);
-        return empty();
+        answer(rt, line, table)?;
+        return Ok(empty());
     }
     if line.word == 0 {
-        return Line {
+        return Ok(Line {
             word: b,
             is_spaced: false,
             digits: 0,
             is_last: false,
-        };
+        });
     }
     if b == b' ' {
-        return Line {
+        return Ok(Line {
             word: line.word,
             is_spaced: true,
             digits: line.digits,
             is_last: false,
-        };
+        });
     }
     if !line.is_spaced {
-        return line;
+        return Ok(line);
     }
-    take_digit(line, digit(b), table)
+    Ok(take_digit(line, digit(b), table))
 }
 
 // The end of the input also ends a line.
-pub fn end(line: Line, table: &[u8]) -> Line {
-    answer(line, table);
-    Line {
+pub fn end(rt: &impl Print, line: Line, table: &[u8]) -> io::Result<Line> {
+    answer(rt, line, table)?;
+    Ok(Line {
         word: 0,
         is_spaced: false,
         digits: 0,
         is_last: true,
-    }
+    })
 }

@@ -1,17 +1,17 @@
 // Words, numbers and line ends on standard output.
+use std::io;
 
-pub fn word(text: &[u8]) {
-    io::write_all(1, text);
+pub fn word(rt: &impl Print, text: &[u8]) -> io::Result<()> {
+    rt.write_all(text)
 }
 
 // A space and a number.
-pub fn number(n: u16) {
-    io::write_all(1, b" ");
-    io::print_decimal(1, n as u64);
+pub fn number(rt: &impl Print, n: u16) -> io::Result<()> {
+    print!(rt; " {n}")
 }
 
-pub fn line_end() {
-    io::write_all(1, b"\n");
+pub fn line_end(rt: &impl Print) -> io::Result<()> {
+    rt.write_all(b"\n")
 }
 
 // The number at a place, 0 past the end.
@@ -20,23 +20,24 @@ fn number_at(list: &[u16], at: usize) -> u16 {
 }
 
 // The numbers at places from..to.
-pub fn numbers(list: &[u16], from: usize, to: usize) {
+pub fn numbers(rt: &impl Print, list: &[u16], from: usize, to: usize) -> io::Result<()> {
     for i in from..to {
-        number(number_at(list, i));
+        number(rt, number_at(list, i))?;
     }
+    Ok(())
 }
 
 // A refusal's number and row.
-pub fn refused(n: u8, row: u16) {
-    word(b"refused");
-    number(n as u16);
-    number(row);
+pub fn refused(rt: &impl Print, n: u8, row: u16) -> io::Result<()> {
+    word(rt, b"refused")?;
+    number(rt, n as u16)?;
+    number(rt, row)
 }
 
 // A word, two rows and a byte.
-pub fn found(text: &[u8], first: u16, second: u16, byte: u16) {
-    word(text);
-    number(first);
-    number(second);
-    number(byte);
+pub fn found(rt: &impl Print, text: &[u8], first: u16, second: u16, byte: u16) -> io::Result<()> {
+    word(rt, text)?;
+    number(rt, first)?;
+    number(rt, second)?;
+    number(rt, byte)
 }

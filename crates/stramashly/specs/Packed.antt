@@ -12,7 +12,6 @@ use Rattle.model.specs.declared.AcceptAnswer.{AcceptAnswer}
 use Rattle.model.specs.declared.AcceptAnswer.TheVariants as accept
 use Rattle.door_pieces.specs.declared.RowPlace.{RowPlace}
 use Rattle.door_pieces.specs.declared.RowPlace.TheVariants as place
-use Rattle.model.specs.declared.Report.{Report}
 use Rattle.model.specs.declared.ReportAnswer.{ReportAnswer}
 use Rattle.model.specs.declared.ReportAnswer.TheVariants as told
 use Rattle.model.specs.declared.Admission.{Admission}

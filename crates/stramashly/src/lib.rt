@@ -1,4 +1,5 @@
-// The functions that C and Rust link. Each is the proved function of the same name with its answer packed into one number.
+// The functions that C and Rust link, by way of `stramashly_c`. Each is the proved function of the same name with its answer packed into
+// one number.
 ghost use Rattle.std.specs.Prelude.{◌≡◌, true, ◌≤◌, length};
 ghost use Rattle.model.specs.Check.{check, check_answer, cycle_after, work_after};
 ghost use Rattle.model.specs.Fill.{fill, fill_answer, sources_after};
@@ -201,13 +202,7 @@ fn reason_of(classes: u8) -> Reason
 
 // Judges one recorded run, of a device with chains where the switch is on: `ask_check::check`, packed.
 // Ruled out: one whose code for a race is that of race-free; one that leaves what a check worked with in the work area.
-#[unsafe(no_mangle)]
-pub extern "C" fn stramashly_check(
-    table: &[u8],
-    chains: u8,
-    work: &mut [u64],
-    cycle: &mut [u16],
-) -> u64
+pub fn stramashly_check(table: &[u8], chains: u8, work: &mut [u64], cycle: &mut [u16]) -> u64
     ensures { let answer = check (is_on chains) table.now (length work.old) (length cycle.old) in
         (result ≡ pack_check (check_answer answer))
         × (work.new ≡ work_after answer work.old)
@@ -218,8 +213,7 @@ pub extern "C" fn stramashly_check(
 
 // The same by the flags engine, for whoever wants a second answer: it is proved to be the first one.
 // Ruled out: one whose work area keeps a flag; one that answers another race than the engine by sets.
-#[unsafe(no_mangle)]
-pub extern "C" fn stramashly_check_by_flags(
+pub fn stramashly_check_by_flags(
     table: &[u8],
     chains: u8,
     work: &mut [u64],
@@ -235,13 +229,7 @@ pub extern "C" fn stramashly_check_by_flags(
 
 // Fills the blanks of one recorded run: `ask_fill::fill`, packed, with the number of rows where it filled them.
 // Ruled out: one whose code for filled is that of none; one that writes a source where a pair races.
-#[unsafe(no_mangle)]
-pub extern "C" fn stramashly_fill(
-    table: &[u8],
-    chains: u8,
-    work: &mut [u64],
-    sources: &mut [u16],
-) -> u64
+pub fn stramashly_fill(table: &[u8], chains: u8, work: &mut [u64], sources: &mut [u16]) -> u64
     ensures { let answer = fill (is_on chains) table.now (length work.old) (length sources.old) in
         (result ≡ pack_fill (fill_answer answer) (rows_at table.now))
         × (work.new ≡ Fill.work_after answer work.old)
@@ -254,8 +242,7 @@ pub extern "C" fn stramashly_fill(
 
 // The same by the flags engine.
 // Ruled out: one that fills another source than the engine by sets; one whose code for filled is that of none.
-#[unsafe(no_mangle)]
-pub extern "C" fn stramashly_fill_by_flags(
+pub fn stramashly_fill_by_flags(
     table: &[u8],
     chains: u8,
     work: &mut [u64],
@@ -273,8 +260,7 @@ pub extern "C" fn stramashly_fill_by_flags(
 
 // Why one moment happens before another: `ask_derive::derive`, packed; class set 16 is the word program order.
 // Ruled out: one whose code for not before is that of a chain; one that writes to the chain buffer where it says program order.
-#[unsafe(no_mangle)]
-pub extern "C" fn stramashly_derive(
+pub fn stramashly_derive(
     table: &[u8],
     first: u16,
     second: u16,
@@ -292,14 +278,7 @@ pub extern "C" fn stramashly_derive(
 // Whether a derivation shows that one moment happens before another: `ask_accepts::accepts`, packed; class set 16 is the word program
 // order.
 // Ruled out: one that takes class set 16 for a chain; one whose code for accepted is that of not accepted.
-#[unsafe(no_mangle)]
-pub extern "C" fn stramashly_accepts(
-    table: &[u8],
-    first: u16,
-    second: u16,
-    classes: u8,
-    steps: &[u16],
-) -> u64
+pub fn stramashly_accepts(table: &[u8], first: u16, second: u16, classes: u8, steps: &[u16]) -> u64
     ensures { result ≡ pack_accept (accept_answer (judge table.now first second (reason_of classes) steps.now)) }
 {
     pack_accept(ask_accepts::accepts(table, first, second, reason_of(classes), steps))
@@ -308,8 +287,7 @@ pub extern "C" fn stramashly_accepts(
 // How bad a recorded run was: `ask_report::report`, packed, with the pairs that are mutually-ordered, ordered and racing, which add up to the
 // conflicting ones; and the report's share, in the number lent for it.
 // Ruled out: one that packs the conflicting pairs in place of the racing ones; one that writes a share where no pair conflicts.
-#[unsafe(no_mangle)]
-pub extern "C" fn stramashly_report(
+pub fn stramashly_report(
     table: &[u8],
     chains: u8,
     work: &mut [u64],
@@ -330,8 +308,7 @@ pub extern "C" fn stramashly_report(
 
 // Writes a table of values: `door_write::parts::write_parts`, packed.
 // Ruled out: one whose number of bytes is that of the buffer; one that writes where it refuses.
-#[unsafe(no_mangle)]
-pub extern "C" fn stramashly_write(
+pub fn stramashly_write(
     version: u8,
     places: &[u16],
     rows: &[u8],
@@ -347,8 +324,7 @@ pub extern "C" fn stramashly_write(
 
 // The values of a table, in the front of lent parts: `door_write::read::read_parts`, packed. `stramashly_write` of them gives the table again.
 // Ruled out: one whose number has the version and the agents exchanged; one that has the rows in the place of the dependencies.
-#[unsafe(no_mangle)]
-pub extern "C" fn stramashly_read(
+pub fn stramashly_read(
     table: &[u8],
     places: &mut [u16],
     rows: &mut [u8],
@@ -366,8 +342,7 @@ pub extern "C" fn stramashly_read(
 
 // Whether a table can be stepped through: `door_step::opening`, packed.
 // Ruled out: one that opens what a fill refuses; one that refuses a blank.
-#[unsafe(no_mangle)]
-pub extern "C" fn stramashly_open(table: &[u8]) -> u64
+pub fn stramashly_open(table: &[u8]) -> u64
     ensures { result ≡ pack_open (admission true table.now) }
 {
     pack_open(door_step::opening(table))
@@ -376,8 +351,7 @@ pub extern "C" fn stramashly_open(table: &[u8]) -> u64
 // The row at a place of a table, as its sixteen bytes, or the end, and the next place: `door_step::step_from`, packed. What a fill refuses,
 // 11 aside, gets that refusal at every place.
 // Ruled out: one that gives a row of a table that a fill refuses; one that writes a part of a row into a short buffer; one that leaves the end.
-#[unsafe(no_mangle)]
-pub extern "C" fn stramashly_row(table: &[u8], at: u16, row: &mut [u8]) -> u64
+pub fn stramashly_row(table: &[u8], at: u16, row: &mut [u8]) -> u64
     ensures { (result ≡ row_answer table.now at (length row.old))
         × (row.new ≡ row_after table.now at row.old) }
 {
@@ -393,8 +367,7 @@ pub extern "C" fn stramashly_row(table: &[u8], at: u16, row: &mut [u8]) -> u64
 
 // Judges one recorded run in two pieces: `ask_check::check_both`, packed.
 // Ruled out: one that judges the first piece alone; one that takes the pieces the other way round.
-#[unsafe(no_mangle)]
-pub extern "C" fn stramashly_check2(
+pub fn stramashly_check2(
     first: &[u8],
     second: &[u8],
     chains: u8,
@@ -411,8 +384,7 @@ pub extern "C" fn stramashly_check2(
 
 // Fills the blanks of one recorded run in two pieces: `ask_fill::fill_both`, packed, with the number of rows of both where it filled them.
 // Ruled out: one that tells the rows of the first piece alone; one that counts them with the pieces the other way round.
-#[unsafe(no_mangle)]
-pub extern "C" fn stramashly_fill2(
+pub fn stramashly_fill2(
     first: &[u8],
     second: &[u8],
     chains: u8,
@@ -432,8 +404,7 @@ pub extern "C" fn stramashly_fill2(
 
 // How bad a recorded run in two pieces was: `ask_report::report_both`, packed; and the report's share, in the number lent for it.
 // Ruled out: one that counts the pairs of each piece by itself; one that writes a share where no pair conflicts.
-#[unsafe(no_mangle)]
-pub extern "C" fn stramashly_report2(
+pub fn stramashly_report2(
     first: &[u8],
     second: &[u8],
     chains: u8,
@@ -455,8 +426,7 @@ pub extern "C" fn stramashly_report2(
 
 // Why moment m happens before moment k in a table in two pieces: `ask_derive::derive_both`, packed.
 // Ruled out: one that refuses a moment of the second piece's rows; one that derives moment k before moment m.
-#[unsafe(no_mangle)]
-pub extern "C" fn stramashly_derive2(
+pub fn stramashly_derive2(
     first: &[u8],
     second: &[u8],
     m: u16,
@@ -474,8 +444,7 @@ pub extern "C" fn stramashly_derive2(
 
 // Whether a derivation shows it in a table in two pieces: `ask_accepts::accepts_both`, packed.
 // Ruled out: one that reads the steps in the first piece alone; one that reads them from moment k to moment m.
-#[unsafe(no_mangle)]
-pub extern "C" fn stramashly_accepts2(
+pub fn stramashly_accepts2(
     first: &[u8],
     second: &[u8],
     m: u16,
@@ -490,8 +459,7 @@ pub extern "C" fn stramashly_accepts2(
 
 // Where row n of a table in two pieces has its sixteen bytes: `door_pieces::row_place`, packed. Nothing is copied.
 // Ruled out: one that gives a place in a pair that is refused before 5; one that counts the second piece's rows from 0.
-#[unsafe(no_mangle)]
-pub extern "C" fn stramashly_row2<'a>(first: &'a [u8], second: &'a [u8], n: u16) -> u64
+pub fn stramashly_row2<'a>(first: &'a [u8], second: &'a [u8], n: u16) -> u64
     ensures { result ≡ pack_place (row_place first.now second.now n) }
 {
     pack_place(door_pieces::row_place(first, second, n))

@@ -1,21 +1,15 @@
-use Rattle.ask_derive.proofs.chains.find_set.Goals as goal
-
 -- `find_set` meets its contract: no lower class set has a chain. Assumes nothing.
 use mathlib.Core.Path.{◌≡◌, refl, sym, ◌∙◌}
-use Prim.Native.Nat.{◌-◌, ◌≤◌}
 use native.Mathlib.Omega.{arith}
-use lib.ListN.{length}
-use Rattle.finite.specs.Below.{least, least_none}
-use Rattle.bits.specs.Within.{Within, within_refl, within_trans}
+use Rattle.finite.specs.Below.{least_none}
+use Rattle.bits.specs.Within.{within_refl, within_trans}
 use Rattle.model.specs.Limits.{CLASS_SETS}
 use Rattle.model.specs.Table.{decode}
-use Rattle.model.specs.Reason.{has_chain_by}
-use Rattle.work_area.specs.Regions.{HAPPENS, CHAINS_END}
-use Rattle.work_area.specs.Synced.{Synced, synced_kept}
+use Rattle.work_area.specs.Synced.{synced_kept}
 use Rattle.ask_derive.specs.Found.{set_found, set_missed}
 use borrow.Author.Rules.{rules}
-use Rattle.ask_derive.proofs.chains.find_set.Statement.{statement}
 use Rattle.ask_derive.proofs.chains.find_set.Tie as tie
+use Rattle.ask_derive.proofs.chains.find_set.Goals as goal
 
 pub loop-c-init : goal.loop-c-init
 loop-c-init c = (search rules, refl, least_none _, c.requires.2, within_refl _ _ _)

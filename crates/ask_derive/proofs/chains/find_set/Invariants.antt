@@ -1,4 +1,14 @@
+use Prim.Native.Nat.{◌≤◌}
+use Rattle.ask_derive.proofs.chains.find_set.Tie as tie
+use Rattle.bits.specs.Within.{Within}
+use Rattle.finite.specs.Below.{least}
+use Rattle.model.specs.Limits.{CLASS_SETS}
+use Rattle.model.specs.Reason.{has_chain_by}
 use Rattle.run.specs.Layout.{table_in}
+use Rattle.work_area.specs.Regions.{HAPPENS, CHAINS_END}
+use Rattle.work_area.specs.Synced.{Synced}
+use lib.ListN.{length}
+use mathlib.Core.Path.{◌≡◌}
 use Rattle.ask_derive.proofs.chains.find_set.Given as goal
 
 abbrev pub invariant-loop-c : goal.invariant-loop-c

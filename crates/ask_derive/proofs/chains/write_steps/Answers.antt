@@ -1,20 +1,14 @@
-use Rattle.ask_derive.proofs.chains.write_steps.Goals as goal
-
 -- `write_steps` meets its contract: i steps are written, and the rest of the chain begins at z. Assumes nothing.
 use mathlib.Core.Path.{◌≡◌, refl, sym, ◌∙◌}
-use Prim.Native.Nat.{◌-◌, ◌*◌, ◌≤◌, ◌<◌}
 use native.Mathlib.Omega.{arith}
-use lib.ListN.{length, length-set}
-use Rattle.finite.specs.Lists.{Written, written_none, written_more}
-use Rattle.finite.specs.Walk.{trail, along}
-use Rattle.bits.specs.Matrix.{rel}
+use lib.ListN.{length-set}
+use Rattle.finite.specs.Lists.{written_none, written_more}
 use Rattle.model.specs.Reason.{step_number}
-use Rattle.work_area.specs.Regions.{STEP, MOMENTS}
 use Rattle.work_walks.specs.Layers.{next_is}
-use Rattle.work_walks.specs.Left.{Left, left_none, left_more}
+use Rattle.work_walks.specs.Left.{left_none, left_more}
 use borrow.Author.Rules.{rules}
-use Rattle.ask_derive.proofs.chains.write_steps.Statement.{statement}
 use Rattle.ask_derive.proofs.chains.write_steps.Tie as tie
+use Rattle.ask_derive.proofs.chains.write_steps.Goals as goal
 
 pub loop-i-init : goal.loop-i-init
 loop-i-init c =

@@ -1,4 +1,14 @@
+use Prim.Native.Nat.{◌-◌, ◌*◌, ◌≤◌, ◌<◌}
+use Rattle.ask_derive.proofs.chains.write_steps.Tie as tie
+use Rattle.bits.specs.Matrix.{rel}
+use Rattle.finite.specs.Lists.{Written}
+use Rattle.finite.specs.Walk.{trail, along}
+use Rattle.model.specs.Reason.{step_number}
 use Rattle.run.specs.Layout.{table_in}
+use Rattle.work_area.specs.Regions.{STEP, MOMENTS}
+use Rattle.work_walks.specs.Left.{Left}
+use lib.ListN.{length}
+use mathlib.Core.Path.{◌≡◌}
 use Rattle.ask_derive.proofs.chains.write_steps.Given as goal
 
 abbrev pub invariant-loop-i : goal.invariant-loop-i

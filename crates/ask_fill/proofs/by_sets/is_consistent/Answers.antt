@@ -1,0 +1,28 @@
+use mathlib.Core.Path.{refl, ◌∙◌}
+use Rattle.model.specs.Table.{decode}
+use Rattle.sets_grids.specs.Given.{given_few}
+use Rattle.sets_grids.specs.Grid.{grid_made}
+use Rattle.ask_check.specs.Answers.{edges_held}
+use Rattle.ask_check.specs.Engine.{judge_kept}
+use Rattle.ask_fill.specs.Parts.{cyclic_told, acyclic_found}
+use Rattle.ask_fill.proofs.by_sets.is_consistent.Goals as goal
+
+pub returns-then-x-n : goal.returns-then-x-n
+unfolding decode
+returns-then-x-n c =
+    let start = c.cycle_start-x.ensures in
+    cyclic_told _ _ _ _ _ _ _ refl (grid_made (given_few c.requires.1.given) c.fill_edges.ensures) start.0 start.1 c.if-x-n.true
+
+pub first_overwrite-requires : goal.first_overwrite-requires
+first_overwrite-requires c =
+    let pre = c.requires in
+    let small = given_few pre.1.given in
+    let frame = (edges_held (grid_made small c.fill_edges.ensures) c.cycle_start-x.ensures.1).1 in
+    (pre.0.each, judge_kept frame pre.1)
+
+pub returns : goal.returns
+unfolding decode
+returns c =
+    let start = c.cycle_start-x.ensures in
+    let told = acyclic_found _ _ _ _ _ _ _ refl (grid_made (given_few c.requires.1.given) c.fill_edges.ensures) start.0 start.1 c.if-x-n.false _ c.first_overwrite.ensures in
+    (c.is_none.ensures ∙ told.0, told.1)

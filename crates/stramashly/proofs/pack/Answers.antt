@@ -1,0 +1,6 @@
+use Rattle.stramashly.specs.Packed.{packed}
+use Rattle.stramashly.proofs.pack.Goals as goal
+
+pub returns : goal.returns
+unfolding packed
+returns c = cc

@@ -2,9 +2,7 @@ pub mod Terms
 pub mod Tables
 pub mod Pieces
 pub mod JoinedBytes
-pub mod PiecesExactly
 pub mod Writer
-pub mod WriteExactly
 pub mod ReadExactly
 pub mod Stepping
 pub mod StepExactly

@@ -1,5 +1,5 @@
--- What is promised of stepping through a table's rows, of any bytes and any place. To be read like
--- crates/promises/specs/Main.antt: each proof names a theorem of a page beside this one.
+-- What the answers of stepping through a table's rows mean, of any bytes and any place. To be read like
+-- crates/promises/specs/Main.antt. What is promised is in proofs/Stepping.antt, in these words.
 --
 -- The notation: (x : ℕ) → P is "for every x, P"; (x : ℕ) × P "there is an x with P"; A × B "A and B"; A ⊎ B "A or B";
 -- A → ⊥ "not A"; A ↔ B "A exactly when B"; a ≡ b "a is b". `r.table` is a field. What stands behind `module _` is of
@@ -16,16 +16,12 @@
 --   stepping::open        says `admission true s` and gives a reader r with `Opens s r`
 --   RowReader::next       is `steps_of r i` at call i, counted from 0
 -- crates/numbers/specs/Main.antt has the number that C gets for a step, and what its buffer then holds.
-use Rattle.std.specs.Prelude.{◌≡◌, List, ◌⊎◌, ◌↔◌, ℕ, ◌+◌, ◌*◌, ◌≤◌, ◌<◌, take, drop}
-use Rattle.model.specs.declared.{Row.Row, Source.Source}
+use Rattle.std.specs.Prelude.{◌≡◌, List, ◌⊎◌, ℕ, ◌+◌, ◌≤◌, ◌<◌}
 use Rattle.model.specs.Table.{row_of, source_of}
-use Rattle.model.specs.Header.{ROW_BYTES, rows_at, row_bytes}
-use Rattle.door_write.specs.Encode.{row_list}
-use Rattle.door_step.specs.declared.{RowReader.RowReader, Step.Step, Stepped.Stepped}
-use Rattle.door_step.specs.Steps.{steps_of, stepped_at}
-use Rattle.model_promises.specs.Terms.{Bytes, Fillable, Unfillable}
-use Rattle.model_cited.specs.Terms.{source, Opens}
-use Rattle.model_cited.specs as beside
+use Rattle.model.specs.Header.{rows_at, row_bytes}
+use Rattle.door_step.specs.declared.{Step.Step, Stepped.Stepped}
+use Rattle.model_promises.specs.Terms.{Fillable, Unfillable}
+use Rattle.model_cited.specs.Terms.{source}
 
 -- ==== What each answer means. It is given exactly when its meaning holds
 
@@ -38,40 +34,8 @@ module _ (s : List ℕ) (i : ℕ) where
       × (r ≡ row_of (row_bytes s) i) × (c ≡ source (source_of (row_bytes s) i)) × (next ≡ i + 1)
   StepMeans (Stepped.End next) = Fillable s × (rows_at s ≤ i) × (next ≡ i)
 
-  pub step_means : (x : Stepped) → (stepped_at s i ≡ x) ↔ StepMeans x
-  step_means (Stepped.Refused n j) = beside.StepExactly.exactly s i (Stepped.Refused n j)
-  step_means (Stepped.Row r c next) = beside.StepExactly.exactly s i (Stepped.Row r c next)
-  step_means (Stepped.End next) = beside.StepExactly.exactly s i (Stepped.End next)
-
   -- call i of a reader that was opened on s: rows 0 onward, each once, then the end; of what a fill refuses, the end
   abbrev pub NextMeans : Step → Type 0
   NextMeans (Step.Row r c) =
       Fillable s × (i < rows_at s) × (r ≡ row_of (row_bytes s) i) × (c ≡ source (source_of (row_bytes s) i))
   NextMeans Step.End = (Fillable s × (rows_at s ≤ i)) ⊎ ((n : ℕ) × (j : ℕ) × Unfillable s n j)
-
-  pub next_means : (r : RowReader) → Opens s r → (x : Step) → (steps_of r i ≡ x) ↔ NextMeans x
-  next_means r o (Step.Row q c) = beside.StepExactly.next_exactly s i r o (Step.Row q c)
-  next_means r o Step.End = beside.StepExactly.next_exactly s i r o Step.End
-
--- ==== What follows
-
--- a row that was given is, written down again, the sixteen bytes that stand in the table
-pub row_bytes_lem : (s : List ℕ) → Bytes s → (i : ℕ) (r : Row) (c : Source) (next : ℕ)
-    → stepped_at s i ≡ Stepped.Row r c next
-    → row_list r c.0 ≡ take ROW_BYTES (drop (ROW_BYTES * i) (row_bytes s))
-row_bytes_lem = beside.StepExactly.row_bytes_lem
-
--- a table that is refused at one place is refused so at every other
-pub refused_everywhere : (s : List ℕ) (i n j : ℕ) → stepped_at s i ≡ Stepped.Refused n j
-    → (k : ℕ) → stepped_at s k ≡ Stepped.Refused n j
-refused_everywhere = beside.StepExactly.refused_everywhere
-
--- after the end there is the end at every further place
-pub end_stays : (s : List ℕ) (i next : ℕ) → stepped_at s i ≡ Stepped.End next
-    → (k : ℕ) → i ≤ k → stepped_at s k ≡ Stepped.End k
-end_stays = beside.StepExactly.end_stays
-
--- and of a reader: after its end there are no rows
-pub next_end_stays : (s : List ℕ) (r : RowReader) → Opens s r → (i : ℕ) → steps_of r i ≡ Step.End
-    → (k : ℕ) → i ≤ k → steps_of r k ≡ Step.End
-next_end_stays = beside.StepExactly.next_end_stays

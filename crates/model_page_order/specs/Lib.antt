@@ -8,7 +8,4 @@ pub mod FillAlike
 pub mod Moved
 pub mod MovedAlike
 pub mod VerdictAlike
-pub mod AnswersAlike
-pub mod PiecesAlike
-pub mod Page
 pub mod Tried

@@ -9,7 +9,7 @@ use Rattle.model_runs.specs.Opened.{opened}
 use Rattle.model_page_order.specs.Renumber.{Renumbering}
 use Rattle.model_page_order.specs.Moved.{Moved}
 use Rattle.model_page_order.specs.Tried.{undoes, by_list, listed, same_head, same_byte, same_row, in_order, ordered, same_dependency, same_dependencies, is_moved}
-use Rattle.model_page_order.specs.Tried.{moved_by_test}
+use Rattle.model_page_order.proofs.Tried.{moved_by_test}
 
 -- ---- tables: as the model's runs have them
 

@@ -19,7 +19,7 @@ use Rattle.model_closing.specs.Nodes.{releaser, node}
 use Rattle.model_closing.specs.Direct.{takes_part, available_for, visible_for}
 use Rattle.model_closing.specs.Sets.{reached_at, reached_available, reached_visible, passes_later, next_release, of_next}
 use Rattle.model_closing.specs.Asked.{next_or_of, releases_from, release_from, from_rows_of, from_available_at, from_available, from_visible, asked_at, asked_available_at, asked_available_visible, asked_availables, asked_visibles}
-use Rattle.model_closing.specs.Asked.{inter_at, inter_available_at, inter_available_visible, inter_availables, inter_visibles}
+use Rattle.model_closing.proofs.Asked.{inter_at, inter_available_at, inter_available_visible, inter_availables, inter_visibles}
 use Rattle.sets_of_rows.specs.declared.Set.{Set}
 use Rattle.sets_of_rows.specs.Member.{in_set}
 use Rattle.sets_of_rows.specs.First.{First, first_of, first_next, next}

@@ -15,7 +15,8 @@ use Rattle.model.specs.Table.{Table}
 use Rattle.model_closing.specs.Tests.{or_off_left}
 use Rattle.model_placing.specs.Leads
 use Rattle.model_placing.specs.Elements.{avails, behind_is, kept, wide_of, kept_step}
-use Rattle.model_placing.specs.Whole.{first_plain, whole_plain, narrow, strong_to, strong_kept}
+use Rattle.model_placing.specs.Whole.{first_plain, whole_plain, narrow, strong_to}
+use Rattle.model_placing.proofs.Whole.{strong_kept}
 use Rattle.sets_of_rows.specs.declared.Set.{Set}
 use Rattle.sets_of_rows.specs.Member.{in_set}
 use Rattle.sets_of_rows.specs.First.{First, first_next, Rest, next}

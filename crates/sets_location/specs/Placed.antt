@@ -21,7 +21,8 @@ use Rattle.work_area.specs.Regions.{OVERLAP}
 use Rattle.work_area.specs.State.{overlaps}
 use Rattle.model_placing.specs.Leads.{meets, shows}
 use Rattle.model_placing.specs.Elements.{shews, visible_is}
-use Rattle.model_placing.specs.Whole.{told, whole, crosses, shared_at, shared_nth, full_by, part_by, part_nth, Right, before_shared, shared_crosses, bits_by}
+use Rattle.model_placing.specs.Whole.{told, whole, crosses, shared_at, shared_nth, full_by, part_by, part_nth, Right, before_shared, shared_crosses}
+use Rattle.model_placing.proofs.Whole.{bits_by}
 use Rattle.model_placing.specs.Right.{right_all, right_cong}
 use Rattle.model_placing.specs.Writer.{full_set, full_set_lem, part_maybe}
 use Rattle.sets_of_rows.specs.declared.Set.{Set}

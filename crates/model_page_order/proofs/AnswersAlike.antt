@@ -27,7 +27,8 @@ use Rattle.model_page_order.specs.Renumber.{Renumbering, to_below}
 use Rattle.model_page_order.specs.Moved.{Moved}
 use Rattle.model_page_order.specs.Alike.{Alike}
 use Rattle.model_page_order.specs.RaceAlike.{race_alike}
-use Rattle.model_page_order.specs.MovedAlike.{rows_is, rows_same, to_rows, few_of, sized_of, of_table_lem, moved_alike, sources_moved}
+use Rattle.model_page_order.specs.MovedAlike.{rows_is, to_rows, few_of, sized_of, of_table_lem}
+use Rattle.model_page_order.proofs.MovedAlike.{rows_same, moved_alike, sources_moved}
 use Rattle.model_page_order.specs.VerdictAlike.{check_word, fill_word, verdict_alike, chosen_moved, passes_alike, racing, passing, outcome_is, settled_word}
 use Rattle.model_page_order.specs.VerdictAlike.{race, none, filled}
 

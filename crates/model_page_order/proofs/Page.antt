@@ -1,9 +1,9 @@
 -- The order of the rows in a table doesn't matter. To be read like crates/promises/specs/Main.antt: each proof names a
 -- theorem of a page beside this one.
 --
--- `Moved s s' π` (Moved.antt) says that s' is the table s with its rows moved: row i of s is row `π.to i` of s', each
+-- `Moved s s' π` (specs/Moved.antt) says that s' is the table s with its rows moved: row i of s is row `π.to i` of s', each
 -- agent's own rows keep their order, sources and dependencies are renumbered. `check_word` and `fill_word`
--- (VerdictAlike.antt) keep of an answer its word alone: race-free, race, inconsistent, none, filled.
+-- (specs/VerdictAlike.antt) keep of an answer its word alone: race-free, race, inconsistent, none, filled.
 -- Both tables are accepted, each with buffers of its own; the switch `chains` is any, and so is the version.
 use Rattle.std.specs.Prelude.{◌≡◌, Bool, List, ℕ, ◌<◌, length, get_or}
 use Rattle.model.specs.Header.{rows_at}
@@ -15,7 +15,7 @@ use Rattle.door_pieces.specs.Pieces.{pieces_fault, joined, check_both, fill_both
 use Rattle.model_page_order.specs.Renumber.{Renumbering}
 use Rattle.model_page_order.specs.Moved.{Moved}
 use Rattle.model_page_order.specs.VerdictAlike.{check_word, fill_word}
-use Rattle.model_page_order.specs as beside
+use Rattle.model_page_order.proofs as beside
 
 module _ (chains : Bool) (s s' : List ℕ) (π : Renumbering (rows_at s)) (moved : Moved s s' π)
     (work buffer work' buffer' : ℕ) where

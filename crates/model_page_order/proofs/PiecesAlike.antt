@@ -14,7 +14,7 @@ use Rattle.door_pieces.specs.Promise.{check_joined, fill_joined}
 use Rattle.model_page_order.specs.Renumber.{Renumbering}
 use Rattle.model_page_order.specs.Moved.{Moved}
 use Rattle.model_page_order.specs.VerdictAlike.{check_word, fill_word}
-use Rattle.model_page_order.specs.AnswersAlike.{check_alike, fill_alike, fill_written}
+use Rattle.model_page_order.proofs.AnswersAlike.{check_alike, fill_alike, fill_written}
 
 module _ (chains : Bool) (f s f' s' : List ℕ) (z : pieces_fault f s ≡ 0) (z' : pieces_fault f' s' ≡ 0)
     (π : Renumbering (rows_at (joined f s))) (moved : Moved (joined f s) (joined f' s') π) (work buffer work' buffer' : ℕ) where

@@ -1,0 +1,5 @@
+pub mod MovedAlike
+pub mod AnswersAlike
+pub mod PiecesAlike
+pub mod Page
+pub mod Tried

@@ -49,15 +49,19 @@ impl Sources {
         sources
     }
 
-    /// The specifications of the crates alone, and the crates.
+    /// The specifications of the crates and their laws, without the proofs of
+    /// functions, and the crates.
     fn definitions() -> Sources {
         let mut sources = Sources::below(&[]);
         for entry in fs::read_dir(sources.root.join("crates")).unwrap() {
-            let name = entry.unwrap().file_name();
-            let specs = sources.root.join("crates").join(&name).join("specs");
+            let entry = entry.unwrap();
+            let name = entry.file_name();
             sources.names.insert(name.to_string_lossy().into_owned());
-            if specs.exists() {
-                sources.add(&specs);
+            for part in ["specs", "proofs"] {
+                let files = fs::read_dir(entry.path().join(part));
+                let files = files.into_iter().flatten().map(|file| file.unwrap().path());
+                let files = files.filter(|file| file.is_file());
+                files.for_each(|file| sources.add(&file));
             }
         }
         sources

@@ -1,4 +1,6 @@
 // The reader of derivations, whoever wrote them: kept apart from the engine, and small, to be read in one sitting.
+#![tactic(auto)]
+
 ghost use Rattle.std.specs.Prelude.{◌≡◌, true, ◌*◌, ◌/◌, ◌≤◌, ◌<◌, eqb};
 ghost use Rattle.finite.specs.Logic.{◌and◌};
 ghost use Rattle.model.specs.Limits.{ROWS};

@@ -1,4 +1,6 @@
 // Fills: the source of each blank of a table in one or two pieces, or why there is none.
+#![tactic(auto)]
+
 ghost use Rattle.std.specs.Prelude.{◌≡◌, true, ◌≤◌, length};
 ghost use Rattle.model.specs.Limits.{SOURCES};
 ghost use Rattle.model.specs.Table.{source_of};

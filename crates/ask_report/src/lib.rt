@@ -1,4 +1,6 @@
 // The weekly report of a table in one or two pieces: any bytes, and buffers of any length.
+#![tactic(auto)]
+
 ghost use Rattle.std.specs.Prelude.{◌≡◌, false, length};
 ghost use Rattle.model.specs.Limits.{CYCLE};
 ghost use Rattle.model.specs.Table.{source_of};

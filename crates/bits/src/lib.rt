@@ -1,5 +1,7 @@
 // Bits in a lent list of 64-bit words: bit k is bit k % 64 of word k / 64. Matrices of bits: row i starts at word
 // base + i * stride. These are stages over a work area, so each asks for the room that it uses; nothing else is assumed.
+#![tactic(auto)]
+
 ghost use Rattle.std.specs.Prelude.{◌≡◌, ◌+◌, ◌-◌, ◌*◌, ◌≤◌, ◌<◌, length};
 ghost use Rattle.bits.specs.Bit.{bit, set_bit, set_bit_if, zeros, join_row};
 ghost use Rattle.bits.specs.Matrix.{AREA_LIMIT, Closed};

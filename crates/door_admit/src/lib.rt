@@ -1,4 +1,6 @@
 // Admission: refusals 1 to 10, and 14 to 20, each a test of its own, in their order.
+#![tactic(auto)]
+
 ghost use Rattle.std.specs.Prelude.{◌≡◌};
 ghost use Rattle.model.specs.Refusal.{admission};
 ghost use Rattle.door_admit.specs.Rows.{rows_admission};

@@ -1,4 +1,6 @@
 // The door of every entry point: any two pieces and buffers of any length, to a refusal or to a run that is made once and lent from then on.
+#![tactic(auto)]
+
 ghost use Rattle.std.specs.Prelude.{◌≡◌, ◌++◌, ◌+◌, ◌≤◌, ◌<◌, min, length, get_or, replicate};
 ghost use Rattle.model.specs.Header.{HEADER, has_hosts, row_bytes};
 ghost use Rattle.door_pieces.specs.Pieces.{AREA, early_fault, admission_both};

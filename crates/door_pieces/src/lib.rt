@@ -1,5 +1,7 @@
 // A table in two pieces: the first an ordinary table, the second only rows of 16 bytes, to be added after its rows. A table in one piece is
 // two of which the second is empty.
+#![tactic(auto)]
+
 ghost use Rattle.std.specs.Prelude.{◌≡◌};
 ghost use Rattle.door_pieces.specs.Pieces.{rows_both, count_both, pieces_fault, early_fault, row_part, row_place};
 

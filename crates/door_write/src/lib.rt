@@ -1,4 +1,6 @@
 // The writer: places, rows and dependencies, as values, become a table in a lent buffer.
+#![tactic(auto)]
+
 ghost use Rattle.std.specs.Prelude.{◌≡◌, length};
 ghost use Rattle.finite.specs.Below.{any_below};
 ghost use Rattle.door_write.specs.Encode.{encode};

@@ -1,5 +1,7 @@
 // The axioms: the edges between rows, which axiom A asks to have no cycle, and the overwritten reads that axiom B rules out.
 // The sources of all rows are a lent slice of their own: a check lends the table's, a fill those that it chose.
+#![tactic(auto)]
+
 ghost use Rattle.std.specs.Prelude.{◌≡◌, ◌<◌, length};
 ghost use Rattle.find_axioms.specs.Sources.{source_in};
 

@@ -1,5 +1,7 @@
 // The canonical cycle of the edges that stand as bits in a lent work area: where it begins, and its rows, by the layers of walks back
 // to the first. Nothing but the layers' region of the area changes.
+#![tactic(auto)]
+
 ghost use Rattle.std.specs.Prelude.{◌≡◌, ◌≤◌, length};
 ghost use Rattle.finite.specs.Lists.{Written};
 ghost use Rattle.finite.specs.Walk.{on_cycle, cycle_start, trail};

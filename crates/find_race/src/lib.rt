@@ -1,5 +1,7 @@
 // Races: the first pair of rows that races, and its lowest byte with no location order either way. Some code reads none of the
 // rows, places or number of rows that it is given: they say which table its contract is about.
+#![tactic(auto)]
+
 ghost use Rattle.std.specs.Prelude.{◌≡◌, ◌<◌};
 ghost use Rattle.run.specs.Layout.{table_in};
 ghost use Rattle.model.specs.Scope.{mutually};

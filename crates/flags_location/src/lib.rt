@@ -1,4 +1,6 @@
 // Location order at each byte of each pair of rows, as bits in a lent work area.
+#![tactic(auto)]
+
 ghost use Rattle.std.specs.Prelude.{◌≡◌, ◌+◌, ◌*◌};
 ghost use Rattle.bits.specs.Fill.{row_fill, grid_fill};
 ghost use Rattle.run.specs.Layout.{table_in};

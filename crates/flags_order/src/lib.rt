@@ -1,4 +1,6 @@
 // M6 and M7: happens-before between the moments of a table, as bits in a lent work area.
+#![tactic(auto)]
+
 ghost use Rattle.std.specs.Prelude.{◌≡◌, ◌+◌, ◌*◌, ◌≤◌, ◌<◌, length};
 ghost use Rattle.bits.specs.Stage.{Made, Added};
 ghost use Rattle.model.specs.Limits.{ROWS, WORK, CLASS_SETS};

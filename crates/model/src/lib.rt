@@ -1,4 +1,6 @@
 // What the crates share: the limits, and the types of a row, a source, an admission and the answers.
+#![tactic(auto)]
+
 ghost use Rattle.std.specs.Prelude.{◌≡◌, eqb, ltb};
 ghost use Rattle.model.specs.Limits.{INITIAL, BLANK};
 ghost use Rattle.model.specs.Refusal.{refusal_of};

@@ -1,4 +1,6 @@
 // A table as bytes with fixed places, made once and lent everywhere.
+#![tactic(auto)]
+
 ghost use Rattle.std.specs.Prelude.{◌≡◌, get_or, drop};
 ghost use Rattle.finite.specs.Lists.{tabulate};
 ghost use Rattle.model.specs.Limits.{DEPENDENCIES};

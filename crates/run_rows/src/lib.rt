@@ -1,4 +1,6 @@
 // The rules' tests on one row or two, from the rows alone: what the engines, the finder and the reader of derivations share.
+#![tactic(auto)]
+
 pub mod carriers; // M5: rows that carry a release to an acquire
 pub mod cases; // M6: the direct cases of inter-thread order
 pub mod control; // M5: control barriers

@@ -1,4 +1,6 @@
 // Bytes of a row as bits from its start, at most 16, and the bits of pairs in location order.
+#![tactic(auto)]
+
 ghost use Rattle.std.specs.Prelude.{◌≡◌, ◌^◌, ◌≤◌, ◌<◌, max, min, length};
 ghost use Rattle.model.specs.Limits.{ROWS, WORK, LONGEST};
 ghost use Rattle.run.specs.Layout.{table_in};

@@ -1,5 +1,7 @@
 // L3 by sets of rows: what each availability operation makes available, by itself or as the first of an availability chain: to which rows, and
 // to which visibility operations, by themselves or as the last of a visibility chain. The agents of a chain share the domains of the first.
+#![tactic(auto)]
+
 ghost use Rattle.std.specs.Prelude.{◌≡◌, true, false, ℕ, ◌+◌, ◌≤◌, length};
 ghost use Rattle.model.specs.Table.{Table};
 ghost use Rattle.model_placing.specs.Leads.{meets};

@@ -1,4 +1,6 @@
 // A fill's choice by sets of rows: the source that each blank must have.
+#![tactic(auto)]
+
 ghost use Rattle.std.specs.Prelude.{◌≡◌, true, ◌≤◌, ◌<◌, length, get_or};
 ghost use Rattle.finite.specs.Below.{any_below, least};
 ghost use Rattle.model.specs.Row.{access};

@@ -1,4 +1,6 @@
 // M6 by sets of rows: what a class set concerns, and which class sets are asked.
+#![tactic(auto)]
+
 ghost use Rattle.std.specs.Prelude.{◌≡◌, true, cond, ℕ, ◌≤◌, ◌<◌, length};
 ghost use Rattle.std.specs.Int.Bits.{bit_and};
 ghost use Rattle.model.specs.Synchronizes.{synchronizes};

@@ -1,4 +1,6 @@
 // M5 by sets of rows: control barriers, each met by the rows of one instance.
+#![tactic(auto)]
+
 ghost use Rattle.std.specs.Prelude.{◌≡◌, true, ℕ, ◌+◌, ◌≤◌, ◌<◌, length, get_or};
 ghost use Rattle.model.specs.Row.{control};
 ghost use Rattle.model.specs.Table.{row_of};

@@ -1,4 +1,6 @@
 // The edges between rows by sets of rows, which axiom A asks to have no cycle.
+#![tactic(auto)]
+
 ghost use Rattle.std.specs.Prelude.{◌≤◌, ◌<◌, length};
 ghost use Rattle.model.specs.Limits.{ROWS, WORK};
 ghost use Rattle.model.specs.Edge.{edge};

@@ -1,4 +1,6 @@
 // The engine by sets of rows: what a table's rows are, stage after stage up to location order.
+#![tactic(auto)]
+
 ghost use Rattle.std.specs.Prelude.{◌≤◌, length};
 ghost use Rattle.model.specs.Limits.{WORK};
 ghost use Rattle.run.specs.Layout.{table_in};

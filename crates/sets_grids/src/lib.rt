@@ -1,5 +1,6 @@
 // Where the engine by sets has its grids in the work area: each has a set of rows for each row. What the whole product shares is in `area`;
 // these stand in regions of it that the other engine uses for its own. specs/Regions.antt says the same.
+#![tactic(auto)]
 
 use sets_of_rows::Set;
 

@@ -1,5 +1,7 @@
 // M7 by sets of rows: program order, and what inter-thread order for one class set adds to it: between rows; from availability operations to
 // rows, visibility and availability operations; and between visibility operations.
+#![tactic(auto)]
+
 ghost use Rattle.std.specs.Prelude.{◌≡◌, ℕ, ◌≤◌, ◌<◌, length};
 ghost use Rattle.model.specs.Limits.{ROWS, WORK};
 ghost use Rattle.model.specs.Moment.{program_order};

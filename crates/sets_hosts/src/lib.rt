@@ -1,5 +1,7 @@
 // L4 and L5 by sets of rows: system synchronization, and the memory domains of the host and of the device. Whatever the byte, they tell the
 // same.
+#![tactic(auto)]
+
 ghost use Rattle.std.specs.Prelude.{◌≡◌, true, cond, ℕ, ◌+◌, ◌*◌, ◌≤◌, ◌<◌, length};
 ghost use Rattle.std.specs.Bool.{beq};
 ghost use Rattle.finite.specs.Logic.{◌and◌};

@@ -1,4 +1,6 @@
 // L1 to L5 by sets of rows: SOME, the rows that each access is ordered before at some shared byte, and LOCATION, at which bytes.
+#![tactic(auto)]
+
 ghost use Rattle.std.specs.Prelude.{◌≡◌, true, ◌+◌, length};
 ghost use Rattle.model.specs.Row.{access};
 ghost use Rattle.run.specs.Layout.{table_in};

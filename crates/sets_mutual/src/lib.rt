@@ -1,4 +1,6 @@
 // M3 by sets of rows: mutually-ordered atomics.
+#![tactic(auto)]
+
 ghost use Rattle.std.specs.Prelude.{◌≡◌, true, ◌<◌};
 ghost use Rattle.model.specs.Row.{atomic};
 ghost use Rattle.model.specs.Table.{row_of};

@@ -1,4 +1,6 @@
 // Sets of rows by value: bit j of two words says whether row j is a member. Every contract speaks of members alone.
+#![tactic(auto)]
+
 ghost use Rattle.std.specs.Prelude.{◌≡◌, true, false, not, ℕ, ◌-◌, ◌^◌, ◌≤◌, ◌<◌, eqb, ltb};
 ghost use Rattle.finite.specs.Logic.{◌and◌, ◌or◌};
 ghost use Rattle.finite.specs.Below.{any_below, least};

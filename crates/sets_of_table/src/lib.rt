@@ -1,5 +1,7 @@
 // What is known of the rows of a run, made once: sets of rows in a lent list of words, by the codes and tests of rows, by the scopes that
 // agents share, and by locations and references. Every stage asks these.
+#![tactic(auto)]
+
 ghost use Rattle.std.specs.Prelude.{◌+◌, ◌*◌, ◌≤◌, ◌<◌, length, ◌≡◌};
 ghost use Rattle.model.specs.Limits.{ROWS};
 ghost use Rattle.run.specs.Layout.{rows_in, table_in};

@@ -1,4 +1,6 @@
 // M6 and M7 by sets of rows: the closure of the dependencies, and happens-before.
+#![tactic(auto)]
+
 ghost use Rattle.std.specs.Prelude.{◌≡◌, ◌+◌, ◌*◌, ◌≤◌, length};
 ghost use Rattle.model.specs.Limits.{ROWS};
 ghost use Rattle.model.specs.Synchronizes.{synchronizes};

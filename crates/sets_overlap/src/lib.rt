@@ -1,4 +1,6 @@
 // Which rows share bytes, by sets of rows: it hangs on the location alone.
+#![tactic(auto)]
+
 ghost use Rattle.std.specs.Prelude.{◌≡◌, true, ◌*◌, ◌<◌, replicate};
 ghost use Rattle.finite.specs.Below.{any_below};
 ghost use Rattle.model.specs.Limits.{ROWS};

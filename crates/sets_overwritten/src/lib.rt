@@ -1,4 +1,6 @@
 // Axiom B by sets of rows: reads whose source is overwritten before them.
+#![tactic(auto)]
+
 ghost use Rattle.std.specs.Prelude.{◌≡◌, ◌≤◌, ◌<◌, length};
 ghost use Rattle.model.specs.Row.{reads};
 ghost use Rattle.model.specs.Table.{row_of};

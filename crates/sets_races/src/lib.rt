@@ -1,4 +1,6 @@
 // Pairs of rows that conflict, by sets of rows: the first race, and how many pairs there are of each sort.
+#![tactic(auto)]
+
 ghost use Rattle.std.specs.Prelude.{◌≡◌, true, ◌<◌};
 ghost use Rattle.model.specs.Row.{access};
 ghost use Rattle.model.specs.Table.{row_of};

@@ -1,4 +1,6 @@
 // M4 by sets of rows: the heads of the release sequences that each atomic writer is in.
+#![tactic(auto)]
+
 ghost use Rattle.std.specs.Prelude.{◌≡◌, ◌≤◌, ◌<◌, length};
 ghost use Rattle.model.specs.Limits.{ROWS, WORK};
 ghost use Rattle.model.specs.Scope.{follows};

@@ -1,4 +1,6 @@
 // M5 by sets of rows: synchronizes-with.
+#![tactic(auto)]
+
 ghost use Rattle.std.specs.Prelude.{◌<◌};
 ghost use Rattle.model.specs.Row.{releases};
 ghost use Rattle.model.specs.Table.{row_of};

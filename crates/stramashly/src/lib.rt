@@ -1,5 +1,7 @@
 // The functions that C and Rust link, by way of `stramashly_c`. Each is the proved function of the same name with its answer packed into
 // one number.
+#![tactic(auto)]
+
 ghost use Rattle.std.specs.Prelude.{◌≡◌, true, ◌≤◌, length};
 ghost use Rattle.model.specs.Check.{check, check_answer, cycle_after, work_after};
 ghost use Rattle.model.specs.Fill.{fill, fill_answer, sources_after};

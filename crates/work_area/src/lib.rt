@@ -1,5 +1,7 @@
 // The map of the work area: where each region begins and ends, in words, and where a bit of a region stands. specs/Regions.antt says
 // the same.
+#![tactic(auto)]
+
 pub mod grid; // bits of two rows
 pub mod moments; // bits of two moments
 pub mod pairs; // bits of two rows and a byte

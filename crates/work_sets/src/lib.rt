@@ -1,4 +1,6 @@
 // Sets as bits of words in a lent list: what two sets share, and the lowest bit of it.
+#![tactic(auto)]
+
 ghost use Rattle.std.specs.Prelude.{◌+◌, ◌*◌, ◌≤◌, ◌<◌, length};
 ghost use Rattle.finite.specs.Below.{Least};
 ghost use Rattle.bits.specs.Matrix.{AREA_LIMIT};

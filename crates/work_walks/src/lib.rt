@@ -1,5 +1,7 @@
 // Walks of a counted number of steps to one number: steps and layers are two matrices of bits in a lent list of words, and layer k is
 // the numbers from which k steps lead there. The layers stand after the steps; nothing else of the list changes.
+#![tactic(auto)]
+
 ghost use Rattle.std.specs.Prelude.{◌≡◌, ◌+◌, ◌*◌, ◌≤◌, ◌<◌, length};
 ghost use Rattle.finite.specs.Below.{least};
 ghost use Rattle.bits.specs.Within.{Within};

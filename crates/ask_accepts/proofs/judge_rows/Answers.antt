@@ -12,12 +12,11 @@ returns-then-not-is_there-e c =
 
 pub is_accepted-requires : goal.is_accepted-requires
 unfolding ◌and◌
-is_accepted-requires c =
-    (
-      few c.requires,
-      first_low _ _ _ _ _ _ _ _ c.is_there.ensures (ap not c.if-not-is_there-e.false),
-      second_low _ _ _ _ c.args.e.first _ c.is_there.result _ c.is_there-2.ensures (ap not c.if-not-is_there-e.false),
-    )
+is_accepted-requires c = (
+  few c.requires,
+  first_low _ _ _ _ _ _ _ _ c.is_there.ensures (ap not c.if-not-is_there-e.false),
+  second_low _ _ _ _ c.args.e.first _ c.is_there.result _ c.is_there-2.ensures (ap not c.if-not-is_there-e.false),
+)
 
 pub returns-then-is_accepted : goal.returns-then-is_accepted
 unfolding ◌and◌

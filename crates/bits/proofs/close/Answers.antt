@@ -56,8 +56,8 @@ loop-i-preserved c =
     let fits = c.requires.2 in
     let test = sym c.get.ensures in
     elim c.if-get.branch [
-      then-get v ↦
-        phase_join c.loop-k.w w a.base a.n a.stride k i inv below_i below_k fits c.if-get.w (omega arith) (v.w-is ∙ v.join_row.ensures) (test ∙ v.if-get.true)
+      | then-get v ↦
+          phase_join c.loop-k.w w a.base a.n a.stride k i inv below_i below_k fits c.if-get.w (omega arith) (v.w-is ∙ v.join_row.ensures) (test ∙ v.if-get.true)
       | else-get v ↦ rw v.w-is (phase_skip c.loop-k.w w a.base a.n a.stride k i inv below_i below_k fits (test ∙ v.if-get.false))
     ]
 

@@ -14,15 +14,14 @@ make_reach-requires c =
     given_kept (omega arith) c.make_hosted.ensures.frame c.requires
 
 pub loop-x-init : goal.loop-x-init
-loop-x-init c =
-    (
-      search rules,
-      refl,
-      prepared_kept (within_cleared LOCATION LOCATION_END (omega arith) c.clear.ensures)
-          (made_prepared c.make_hosted.ensures.holds
-          c.make_reach.ensures),
-      cube_fill_none _ _ _ _ _ _,
-    )
+loop-x-init c = (
+  search rules,
+  refl,
+  prepared_kept (within_cleared LOCATION LOCATION_END (omega arith) c.clear.ensures)
+      (made_prepared c.make_hosted.ensures.holds
+      c.make_reach.ensures),
+  cube_fill_none _ _ _ _ _ _,
+)
 
 pub loop-x-preserved : goal.loop-x-preserved
 loop-x-preserved c =

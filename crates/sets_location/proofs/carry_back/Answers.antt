@@ -80,13 +80,13 @@ loop-q-preserved c =
     let held = c.holds_class.ensures in
     let classes = c.classes-classes.ensures in
     let e : (length c.if-holds_class.made ≡ length c.args.made.now) × Carrying (table_in c.args.t.now c.args.n) c.args.n c.args.x (c.loop-q.q + 1) c.if-holds_class.made =
-        elim c.if-holds_class.branch [
-          then-holds_class v ↦
-            carry_taken _ _ _ _ v.made-is inv.1 pre.1.widely (omega (arith, c.agent-agent.ensures, (pre.0.coded _ pre.1.low).agent)) c.agent-agent.ensures c.loop-q-test.true
-            (ap (λ (m : ℕ). meets m (single c.loop-q.q)) (sym classes) ∙ sym held ∙ v.if-holds_class.true) (rows_at c.get-to.ensures (pre.1.available.to.row _ pre.1.low pre.1.widely.available))
-            (rows_at c.get-by.ensures (pre.1.available.by.row _ pre.1.low pre.1.widely.available)) v.join.ensures v.join-then-holds_class.ensures inv.2
-          | else-holds_class v ↦ carry_left _ _ _ v.made-is inv.1 (ap (λ (m : ℕ). meets m (single c.loop-q.q)) (sym classes) ∙ sym held ∙ v.if-holds_class.false) inv.2
-        ]
+    elim c.if-holds_class.branch [
+      | then-holds_class v ↦
+          carry_taken _ _ _ _ v.made-is inv.1 pre.1.widely (omega (arith, c.agent-agent.ensures, (pre.0.coded _ pre.1.low).agent)) c.agent-agent.ensures c.loop-q-test.true
+          (ap (λ (m : ℕ). meets m (single c.loop-q.q)) (sym classes) ∙ sym held ∙ v.if-holds_class.true) (rows_at c.get-to.ensures (pre.1.available.to.row _ pre.1.low pre.1.widely.available))
+          (rows_at c.get-by.ensures (pre.1.available.by.row _ pre.1.low pre.1.widely.available)) v.join.ensures v.join-then-holds_class.ensures inv.2
+      | else-holds_class v ↦ carry_left _ _ _ v.made-is inv.1 (ap (λ (m : ℕ). meets m (single c.loop-q.q)) (sym classes) ∙ sym held ∙ v.if-holds_class.false) inv.2
+    ]
     in
     (search rules, e.0, e.1)
 

@@ -14,7 +14,7 @@ joined c =
     let pos = c.loop-x-test.true in
     let o = c.requires.0.opened in
     elim c.if-has.branch [
-      then-has v ↦ filled_taken v.w-is (omega (arith, inv.0, pos)) (filled_at pos inv.1) v.place_row.ensures
+      | then-has v ↦ filled_taken v.w-is (omega (arith, inv.0, pos)) (filled_at pos inv.1) v.place_row.ensures
       | else-has v ↦ filled_left v.w-is (access_is o _ (omega (arith, inv.0, pos)) _ _ _ c.rows-accesses.ensures c.has.ensures v.if-has.false) (filled_at pos inv.1)
     ]
 

@@ -36,10 +36,10 @@ pub loop-left-preserved : goal.loop-left-preserved
 loop-left-preserved c =
     let few = fitting_few c.requires.2.fitting in let m = member_in _ c.requires.1 (walk_in c.loop-left.invariant.0 c.first.ensures) in
     let e : c.if-unordered-eq0.count ≡ c.loop-left.count + one_of c.args.n (above (conflict_ordered (table_in c.args.t.now c.args.n)) c.args.i) c.first.result =
-        elim c.if-unordered-eq0.branch [
-          then-unordered-eq0 v ↦ counted_on _ _ _ _ c.loop-left.count c.if-unordered-eq0.count m.0 m.1 c.unordered.ensures v.if-unordered-eq0.true v.count-is
-          | else-unordered-eq0 v ↦ counted_off _ _ _ _ c.loop-left.count c.if-unordered-eq0.count m.0 m.1 c.unordered.ensures v.if-unordered-eq0.false v.count-is
-        ]
+    elim c.if-unordered-eq0.branch [
+      | then-unordered-eq0 v ↦ counted_on _ _ _ _ c.loop-left.count c.if-unordered-eq0.count m.0 m.1 c.unordered.ensures v.if-unordered-eq0.true v.count-is
+      | else-unordered-eq0 v ↦ counted_off _ _ _ _ c.loop-left.count c.if-unordered-eq0.count m.0 m.1 c.unordered.ensures v.if-unordered-eq0.false v.count-is
+    ]
     in
     tally_turn _ _ (ordered_out _ _ _ c.requires.1) c.loop-left.invariant c.first.ensures c.but_first-left.ensures e
 

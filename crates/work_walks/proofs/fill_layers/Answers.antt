@@ -7,13 +7,12 @@ use borrow.Author.Rules.{rules}
 use Rattle.work_walks.proofs.fill_layers.Goals as goal
 
 pub loop-k-init : goal.loop-k-init
-loop-k-init c =
-    (
-      search rules,
-      refl,
-      rounds_none _ _ _ _ c.requires.0.room.0 c.requires.0.apart _ _ _ _ c.requires.1 c.requires.0.room.1
-          c.clear.ensures c.put.ensures,
-    )
+loop-k-init c = (
+  search rules,
+  refl,
+  rounds_none _ _ _ _ c.requires.0.room.0 c.requires.0.apart _ _ _ _ c.requires.1 c.requires.0.room.1
+      c.clear.ensures c.put.ensures,
+)
 
 pub overflow_mul-at : goal.overflow_mul-at
 overflow_mul-at c =

@@ -21,16 +21,15 @@ overflow_add-m-2 c =
     omega (arith, mul-le-mul_right c.args.m.stride c.requires.1)
 
 pub first_both-y-requires : goal.first_both-y-requires
-first_both-y-requires c =
-    (
-      omega (
-        arith,
-        row_apart c.args.z c.args.n c.args.m.stride
-            c.requires.2,
-      ),
-      omega (arith, mul-le-mul_right c.args.m.stride c.requires.1),
-      omega arith,
-    )
+first_both-y-requires c = (
+  omega (
+    arith,
+    row_apart c.args.z c.args.n c.args.m.stride
+        c.requires.2,
+  ),
+  omega (arith, mul-le-mul_right c.args.m.stride c.requires.1),
+  omega arith,
+)
 
 pub returns-then-y-n : goal.returns-then-y-n
 unfolding both step_bit rel

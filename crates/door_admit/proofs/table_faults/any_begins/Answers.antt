@@ -12,12 +12,11 @@ pub loop-m-init : goal.loop-m-init
 loop-m-init c = (search rules, any_none _)
 
 pub loop-m-preserved-then-not-has_pair : goal.loop-m-preserved-then-not-has_pair
-loop-m-preserved-then-not-has_pair c =
-    (
-      search rules,
-      any_more _ _ c.loop-m.invariant.1
-          (sym (begins_start _ _ _ _ _ c.requires c.has_pair.ensures (ap not c.if-not-has_pair.true))),
-    )
+loop-m-preserved-then-not-has_pair c = (
+  search rules,
+  any_more _ _ c.loop-m.invariant.1
+      (sym (begins_start _ _ _ _ _ c.requires c.has_pair.ensures (ap not c.if-not-has_pair.true))),
+)
 
 pub returns-then-begins_at : goal.returns-then-begins_at
 returns-then-begins_at c = sym (any_in _ _ _ c.loop-m-test.true (sym c.begins_at.ensures ∙ c.if-begins_at.true))

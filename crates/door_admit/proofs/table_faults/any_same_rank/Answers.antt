@@ -13,12 +13,11 @@ pub loop-j-init : goal.loop-j-init
 loop-j-init c = (search rules, any_none _)
 
 pub loop-j-preserved-then-not-has_pair : goal.loop-j-preserved-then-not-has_pair
-loop-j-preserved-then-not-has_pair c =
-    (
-      search rules,
-      any_more _ _ c.loop-j.invariant.1
-          (sym (rank_off _ _ _ _ _ _ c.requires c.has_pair.ensures (ap not c.if-not-has_pair.true))),
-    )
+loop-j-preserved-then-not-has_pair c = (
+  search rules,
+  any_more _ _ c.loop-j.invariant.1
+      (sym (rank_off _ _ _ _ _ _ c.requires c.has_pair.ensures (ap not c.if-not-has_pair.true))),
+)
 
 pub returns-then-same_rank_at : goal.returns-then-same_rank_at
 returns-then-same_rank_at c = sym (any_in _ _ _ c.loop-j-test.true (sym c.same_rank_at.ensures ∙ c.if-same_rank_at.true))

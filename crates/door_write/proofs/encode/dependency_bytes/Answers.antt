@@ -12,12 +12,11 @@ pub loop-k-init : goal.loop-k-init
 loop-k-init c = (search rules, length-replicate {A = ℕ} 258 0, tab_none _ [])
 
 pub loop-k-preserved : goal.loop-k-preserved
-loop-k-preserved c =
-    (
-      omega arith,
-      simp length-set c.loop-k.invariant.1,
-      tab_more _ _ _ _ (omega arith) c.loop-k.invariant.2 (byte_dependency _ _ _ c.dependency_number.ensures c.half-v.ensures),
-    )
+loop-k-preserved c = (
+  omega arith,
+  simp length-set c.loop-k.invariant.1,
+  tab_more _ _ _ _ (omega arith) c.loop-k.invariant.2 (byte_dependency _ _ _ c.dependency_number.ensures c.half-v.ensures),
+)
 
 pub returns : goal.returns
 returns c =

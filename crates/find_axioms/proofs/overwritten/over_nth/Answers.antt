@@ -23,14 +23,13 @@ returns-then-not-reads-writes c =
 
 pub loop-k-init : goal.loop-k-init
 unfolding decode ◌and◌
-loop-k-init c =
-    (
-      search rules,
-      sym (may_is _ _ _ _ _ _ _ _ _ _ _ refl c.source_at-s.ensures c.row-r.ensures c.row-q.ensures
-          c.reads.ensures c.writes.ensures c.is_row.ensures)
-          ∙ c.if-not-reads-writes.false,
-      least_none _,
-    )
+loop-k-init c = (
+  search rules,
+  sym (may_is _ _ _ _ _ _ _ _ _ _ _ refl c.source_at-s.ensures c.row-r.ensures c.row-q.ensures
+      c.reads.ensures c.writes.ensures c.is_row.ensures)
+      ∙ c.if-not-reads-writes.false,
+  least_none _,
+)
 
 pub before_byte-requires : goal.before_byte-requires
 unfolding decode

@@ -13,10 +13,10 @@ pub loop-j-preserved : goal.loop-j-preserved
 loop-j-preserved c =
     let inv = c.loop-j.invariant in
     let made : RowsMade c.args.t.now c.args.n c.args.s (c.loop-j.j + 1) c.clear.new.w c.if-holds_at.w =
-        elim c.if-holds_at.branch [
-          then-holds_at v ↦ rows_more _ _ _ _ _ _ c.if-holds_at.w (omega arith) inv.2 (rw v.w-is v.fill_at.ensures)
-          | else-holds_at v ↦ rows_skip _ _ _ _ _ _ c.if-holds_at.w (sym c.holds_at.ensures ∙ v.if-holds_at.false) inv.2 v.w-is
-        ]
+    elim c.if-holds_at.branch [
+      | then-holds_at v ↦ rows_more _ _ _ _ _ _ c.if-holds_at.w (omega arith) inv.2 (rw v.w-is v.fill_at.ensures)
+      | else-holds_at v ↦ rows_skip _ _ _ _ _ _ c.if-holds_at.w (sym c.holds_at.ensures ∙ v.if-holds_at.false) inv.2 v.w-is
+    ]
     in
     (search rules, made.grown.frame.len, made)
 

@@ -9,15 +9,14 @@ use borrow.Author.Rules.{rules}
 use Rattle.flags_sync.proofs.heads.fill_sequence.Goals as goal
 
 pub loop-a-init : goal.loop-a-init
-loop-a-init c =
-    (
-      search rules,
-      refl,
-      holds_kept (λ h. omega arith)
-          (within_cleared SEQUENCE SEQUENCE_END (omega arith) c.clear.ensures)
-          c.requires.2,
-      grid_fill_none _ _ _ _ _,
-    )
+loop-a-init c = (
+  search rules,
+  refl,
+  holds_kept (λ h. omega arith)
+      (within_cleared SEQUENCE SEQUENCE_END (omega arith) c.clear.ensures)
+      c.requires.2,
+  grid_fill_none _ _ _ _ _,
+)
 
 pub loop-x-init : goal.loop-x-init
 loop-x-init c = (search rules, refl, c.loop-a.invariant.2, row_fill_none _ _ _)

@@ -10,15 +10,14 @@ use borrow.Author.Rules.{rules}
 use Rattle.flags_sync.proofs.sync.fill_sync.Goals as goal
 
 pub loop-a-init : goal.loop-a-init
-loop-a-init c =
-    (
-      search rules,
-      refl,
-      sequenced_kept (omega arith)
-          (within_cleared SYNC SYNC_END (omega arith) c.clear.ensures)
-          c.requires.2,
-      grid_fill_none _ _ _ _ _,
-    )
+loop-a-init c = (
+  search rules,
+  refl,
+  sequenced_kept (omega arith)
+      (within_cleared SYNC SYNC_END (omega arith) c.clear.ensures)
+      c.requires.2,
+  grid_fill_none _ _ _ _ _,
+)
 
 pub loop-b-init : goal.loop-b-init
 loop-b-init c = (search rules, refl, c.loop-a.invariant.2, row_fill_none _ _ _)

@@ -1,0 +1,6 @@
+use mathlib.Core.Path.{ap, ◌∙◌}
+use Rattle.stramashly.specs.Packed.{pack_accept}
+use Rattle.stramashly.proofs.stramashly_accepts.Goals as goal
+
+pub returns : goal.returns
+returns c = rw (← c.reason_of.ensures) (c.pack_accept.ensures ∙ ap pack_accept c.accepts.ensures)

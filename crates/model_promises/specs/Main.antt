@@ -251,8 +251,8 @@ chains_order_more = ordered_more
 --   Callers.antt                         each case of an answer's enum, and what is left in the lent buffers
 --   Requests.antt                        change requests 5, 8 and 10: what they left as it was, and the order of ranks
 --   crates/numbers/specs/Main.antt       the number that C gets: it has one reading, and what it says
---   crates/moved/specs/Page.antt         a table with its rows moved is answered alike, in one piece or two
---   crates/cited/specs/Pieces.antt       a table in two pieces is answered as the joined one
---   crates/cited/specs/Writer.antt       what is written reads back, what was read is written again
---   crates/cited/specs/Stepping.antt     the stepping reader gives rows 0 onward, each once, then the end
+--   crates/model_page_order/proofs/Page.antt  a table with its rows moved is answered alike, in one piece or two
+--   crates/model_cited/proofs/Pieces.antt     a table in two pieces is answered as the joined one
+--   crates/model_cited/proofs/Writer.antt     what is written reads back, what was read is written again
+--   crates/model_cited/proofs/Stepping.antt   the stepping reader gives rows 0 onward, each once, then the end
 --   crates/filling/specs/Same.antt       the two engines of check and fill answer the same, and leave the same

@@ -1,5 +1,5 @@
 -- 003's examples of chains, and what would fool us there, computed from the definitions. Assumes nothing.
-use Rattle.std.specs.Prelude.{◌≡◌, refl, Bool, true, false, List, [], ◌∷◌, map, ℕ, set}
+use Rattle.std.specs.Prelude.{true, false, List, [], ◌∷◌, ℕ, set}
 use Rattle.model_runs.specs.Runs.{ordered, as_before, Run, table}
 
 -- a place in this workgroup and subgroup

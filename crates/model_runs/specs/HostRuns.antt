@@ -1,8 +1,8 @@
 -- Document 02's run of host agents, and what would fool us there, computed from the definitions. Assumes nothing.
-use Rattle.std.specs.Prelude.{◌≡◌, refl, List, [], ◌∷◌, ◌++◌, map, ℕ, ◌+◌, ◌*◌, length, set}
+use Rattle.std.specs.Prelude.{List, [], ◌∷◌, ◌++◌, ℕ, ◌+◌, ◌*◌, length, set}
 use Rattle.model.specs.Check.{refused, race, race_free}
 use Rattle.model.specs.Fill.{filled}
-use Rattle.model_runs.specs.Runs.{checked, filling, as_check, as_fill, Run, answer, joined, table, write, read}
+use Rattle.model_runs.specs.Runs.{checked, filling, as_check, as_fill, Run, joined, write, read}
 use Rattle.model_runs.specs.RequestRuns.{meet}
 
 -- ---- tables

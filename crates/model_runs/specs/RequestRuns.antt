@@ -3,7 +3,7 @@ use Rattle.std.specs.Prelude.{◌≡◌, refl, false, List, [], ◌∷◌, map, 
 use Rattle.std.specs.Float.{fin}
 use Rattle.model.specs.declared.ReportAnswer.TheVariants as told
 use Rattle.model.specs.Check.{refused, cyclic, race, race_free}
-use Rattle.model_runs.specs.Runs.{Answer, checked, reported, ordered, as_check, as_report, Run, answer, table, change, agent₀, agent₁, agent₂, two, write, read, P, Q, Q_rmw}
+use Rattle.model_runs.specs.Runs.{Answer, checked, reported, as_check, as_report, Run, answer, table, change, agent₀, agent₁, agent₂, two, write, read, P, Q_rmw}
 
 -- ---- control barriers
 

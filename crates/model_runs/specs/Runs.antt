@@ -1,5 +1,5 @@
 -- What a run of the definitions is, and document 01's starred runs, computed from the definitions. Assumes nothing.
-use Rattle.std.specs.Prelude.{◌≡◌, refl, Bool, false, List, [], ◌∷◌, ◌++◌, map, ℕ, ◌+◌, ◌*◌, length, set}
+use Rattle.std.specs.Prelude.{◌≡◌, refl, Bool, false, List, [], ◌∷◌, ◌++◌, ℕ, ◌+◌, ◌*◌, length, set}
 use Rattle.model.specs.declared.Reason.TheVariants.{ProgramOrder, Chain}
 use Rattle.model.specs.declared.ReportAnswer.{ReportAnswer}
 use Rattle.model.specs.Limits.{WORK, CYCLE, SOURCES}

@@ -1,8 +1,8 @@
 -- Shortcuts that would fool us, told apart by runs of the definitions. Assumes nothing.
-use Rattle.std.specs.Prelude.{◌≡◌, refl, List, [], ◌∷◌, map, ℕ}
-use Rattle.model.specs.Check.{refused, race, race_free}
+use Rattle.std.specs.Prelude.{List, [], ◌∷◌, ℕ}
+use Rattle.model.specs.Check.{race, race_free}
 use Rattle.model.specs.Reason as reason
-use Rattle.model_runs.specs.Runs.{checked, reasoned, as_check, as_order, Run, answer, table, change, agent₀, agent₁, write}
+use Rattle.model_runs.specs.Runs.{checked, reasoned, as_check, as_order, Run, table, change, agent₀, agent₁, write}
 
 -- ---- shortcuts that would fool us
 

@@ -1,7 +1,5 @@
-use Rattle.door_write.specs.Answer.{number_over}
 use Rattle.finite.specs.Below.{any_none, any_more, any_in}
 use native.Mathlib.Omega.{arith}
-use mathlib.Core.Bool.{false}
 use mathlib.Core.Path.{◌≡◌, sym, ◌∙◌}
 use borrow.Author.Rules.{rules}
 use Rattle.door_write.proofs.any_number_over.Goals as goal

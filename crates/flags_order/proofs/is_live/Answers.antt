@@ -1,8 +1,6 @@
 use mathlib.Core.Path.{◌≡◌, sym, ◌∙◌}
-use mathlib.Core.Bool.{false}
 use native.Mathlib.Omega.{arith}
 use Rattle.finite.specs.Below.{any_none, any_more, any_in}
-use Rattle.run_rows.specs.Cases.{holds_at}
 use Rattle.flags_order.specs.Cases.{live_first, live_other}
 use borrow.Author.Rules.{rules}
 use Rattle.flags_order.proofs.is_live.Goals as goal

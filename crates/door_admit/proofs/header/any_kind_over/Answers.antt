@@ -1,8 +1,6 @@
 use mathlib.Core.Path.{◌≡◌, sym, ◌∙◌}
-use mathlib.Core.Bool.{false}
 use native.Mathlib.Omega.{arith}
 use Rattle.finite.specs.Below.{any_none, any_more, any_in}
-use Rattle.model.specs.Refusal.{kind_over}
 use borrow.Author.Rules.{rules}
 use Rattle.door_admit.proofs.header.any_kind_over.Goals as goal
 

@@ -1,8 +1,6 @@
 use mathlib.Core.Path.{◌≡◌, sym, ◌∙◌}
-use mathlib.Core.Bool.{false}
 use native.Mathlib.Omega.{arith}
 use Rattle.finite.specs.Below.{any_none, any_more, any_in}
-use Rattle.model.specs.TableFault.{same_rank_at}
 use Rattle.door_admit.proofs.Laws.{rank_off}
 use borrow.Author.Rules.{rules}
 use mathlib.Core.Path.{ap}

@@ -1,7 +1,6 @@
 use mathlib.Core.Path.{◌≡◌, sym}
 use native.Mathlib.Omega.{arith}
 use Rattle.finite.specs.Below.{least_none, least_more, least_found}
-use Rattle.model.specs.TableFault.{table_fault}
 use Rattle.door_admit.proofs.Laws.{fault_here, fault_none, classes_clear}
 use borrow.Author.Rules.{rules}
 use Rattle.door_admit.proofs.table_faults.first_table_fault.Goals as goal

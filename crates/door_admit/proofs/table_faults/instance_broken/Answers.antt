@@ -1,9 +1,8 @@
 use mathlib.Core.Path.{◌≡◌, sym, ap, ◌∙◌}
-use mathlib.Core.Bool.{false}
 use native.Mathlib.Omega.{arith}
 use Rattle.finite.specs.Below.{any_none, any_more, any_in}
 use Rattle.model.specs.declared.Row.{Row}
-use Rattle.model.specs.TableFault.{apart_at, instance_broken}
+use Rattle.model.specs.TableFault.{instance_broken}
 use Rattle.door_admit.proofs.Laws.{instance_none}
 use borrow.Author.Rules.{rules}
 use Rattle.door_admit.proofs.table_faults.instance_broken.Goals as goal

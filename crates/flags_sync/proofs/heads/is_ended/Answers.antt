@@ -1,6 +1,5 @@
 use Rattle.run_rows.specs.Forms.{ends_told}
 use mathlib.Core.Path.{◌≡◌, sym, ◌∙◌}
-use mathlib.Core.Bool.{false}
 use native.Mathlib.Omega.{arith}
 use Rattle.finite.specs.Below.{any_none, any_more, any_in}
 use Rattle.bits.specs.Stage.{holds_bit}

@@ -3,7 +3,7 @@
 use Rattle.std.specs.Prelude.{◌≡◌, Bool, true, List, ℕ, suc, ◌+◌, ◌≤◌, ◌<◌, length, get_or}
 use Rattle.std.proofs.Math.Path.{refl}
 use Rattle.std.proofs.Common.{sym, ap, subst, ◌∙◌, add-one}
-use Rattle.finite.specs.Below.{least, least_is, least_hit}
+use Rattle.finite.specs.Below.{least_is, least_hit}
 use Rattle.finite.specs.Lists.{Written}
 use Rattle.finite.specs.Walk.{walk, on_cycle, cycle_start, cycle_size, trail, cycle}
 use Rattle.finite.specs.Cycle.{length_trail, cycle_canonical, cycle_start_cong, cycle_cong}

@@ -8,7 +8,6 @@ use native.Mathlib.Omega.{arith}
 use mathlib.Core.Path.{◌≡◌, refl, sym, ap, ◌∙◌}
 use Rattle.model.specs.declared.Row.{Row}
 use borrow.Author.Rules.{rules}
-use mathlib.Core.Bool.{not}
 use Rattle.find_race.proofs.first_race.Goals as goal
 use Rattle.find_race.proofs.first_race.Goals.{then-end-b, else-end-b+then-unordered_at}
 

@@ -1,6 +1,5 @@
 use Rattle.sets_grids.specs.Given.{given_few, given_kept}
 use Rattle.sets_engine.specs.Engine.{given_of, judging}
-use Rattle.sets_engine.proofs.prepare.Reads as prepare_reads'
 use Rattle.sets_engine.proofs.locate.Goals as goal
 
 pub order-requires : goal.order-requires

@@ -1,6 +1,5 @@
 use mathlib.Core.Path.{◌≡◌, sym, ◌∙◌}
 use native.Mathlib.Omega.{arith}
-use mathlib.Core.Bool.{false}
 use Rattle.finite.specs.Below.{any_none, any_in, any_more}
 use Rattle.model.specs.Limits.{LONGEST}
 use borrow.Author.Rules.{rules}

@@ -1,9 +1,8 @@
 use mathlib.Core.Path.{◌≡◌, sym, ◌∙◌}
 use native.Mathlib.Omega.{arith}
-use mathlib.Core.Bool.{false}
 use Rattle.finite.specs.Below.{any_none, any_in, any_more}
 use Rattle.model.specs.Table.{decode}
-use Rattle.model.specs.Fill.{written_by, written}
+use Rattle.model.specs.Fill.{written}
 use borrow.Author.Rules.{rules}
 use Rattle.find_sources.proofs.writers.is_written.Goals as goal
 

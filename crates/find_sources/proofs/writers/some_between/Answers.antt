@@ -1,6 +1,5 @@
 use mathlib.Core.Path.{◌≡◌, sym, ◌∙◌}
 use native.Mathlib.Omega.{arith}
-use mathlib.Core.Bool.{false}
 use Rattle.finite.specs.Below.{any_none, any_in, any_more}
 use borrow.Author.Rules.{rules}
 use Rattle.find_sources.proofs.writers.some_between.Goals as goal

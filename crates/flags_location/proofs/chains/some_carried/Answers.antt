@@ -1,5 +1,4 @@
 use mathlib.Core.Path.{◌≡◌, sym, ◌∙◌}
-use mathlib.Core.Bool.{false}
 use native.Mathlib.Omega.{arith}
 use Rattle.finite.specs.Below.{any_more, any_in}
 use Rattle.flags_location.specs.Chains.{carried_low}

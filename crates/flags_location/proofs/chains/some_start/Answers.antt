@@ -1,8 +1,6 @@
 use mathlib.Core.Path.{◌≡◌, sym, ◌∙◌}
-use mathlib.Core.Bool.{false}
 use native.Mathlib.Omega.{arith}
 use Rattle.finite.specs.Below.{any_none, any_more, any_in}
-use Rattle.flags_location.specs.Chains.{starts_with}
 use borrow.Author.Rules.{rules}
 use Rattle.flags_location.proofs.chains.some_start.Goals as goal
 

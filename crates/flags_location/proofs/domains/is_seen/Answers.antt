@@ -1,6 +1,5 @@
 use Rattle.finite.specs.Below.{any_none, any_more, any_in}
 use native.Mathlib.Omega.{arith}
-use mathlib.Core.Bool.{false}
 use mathlib.Core.Path.{◌≡◌, sym, ◌∙◌}
 use borrow.Author.Rules.{rules}
 use Rattle.flags_location.proofs.domains.is_seen.Goals as goal

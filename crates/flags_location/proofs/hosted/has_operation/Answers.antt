@@ -1,7 +1,5 @@
-use Rattle.flags_location.specs.Domains.{operation_at}
 use Rattle.finite.specs.Below.{any_none, any_more, any_in}
 use native.Mathlib.Omega.{arith}
-use mathlib.Core.Bool.{false}
 use mathlib.Core.Path.{◌≡◌, sym, ◌∙◌}
 use borrow.Author.Rules.{rules}
 use Rattle.flags_location.proofs.hosted.has_operation.Goals as goal

@@ -14,7 +14,7 @@ use Rattle.model.specs.Row.{access}
 use Rattle.model.specs.Table.{Table}
 use Rattle.model.specs.Scope.{mutually}
 use Rattle.model.specs.Race.{clash, conflict, unordered_nth, race_nth, races, races_above, race_partner, has_race, race_row, race_byte}
-use Rattle.model.specs.Report.{conflict_mutual, conflict_ordered, conflicting, mutuals, ordered, racing}
+use Rattle.model.specs.Report.{conflict_mutual, conflict_ordered, conflicting, mutuals, ordered}
 use Rattle.bits.specs.Bit.{bit_of}
 use Rattle.std.proofs.Math.Decide.{dec_lt}
 use Rattle.model_laws.specs.ReportLaws.{one_way, adds_up}

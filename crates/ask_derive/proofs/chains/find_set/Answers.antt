@@ -8,7 +8,6 @@ use Rattle.model.specs.Table.{decode}
 use Rattle.work_area.specs.Synced.{synced_kept}
 use Rattle.ask_derive.specs.Found.{set_found, set_missed}
 use borrow.Author.Rules.{rules}
-use Rattle.ask_derive.proofs.chains.find_set.Tie as tie
 use Rattle.ask_derive.proofs.chains.find_set.Goals as goal
 
 pub loop-c-init : goal.loop-c-init

@@ -1,5 +1,4 @@
 use Prim.Native.Nat.{◌≤◌}
-use Rattle.ask_derive.proofs.chains.find_set.Tie as tie
 use Rattle.bits.specs.Within.{Within}
 use Rattle.finite.specs.Below.{least}
 use Rattle.model.specs.Limits.{CLASS_SETS}

@@ -3,11 +3,9 @@ use mathlib.Core.Path.{◌≡◌, refl, sym, ◌∙◌}
 use native.Mathlib.Omega.{arith}
 use lib.ListN.{length-set}
 use Rattle.finite.specs.Lists.{written_none, written_more}
-use Rattle.model.specs.Reason.{step_number}
 use Rattle.work_walks.specs.Layers.{next_is}
 use Rattle.work_walks.specs.Left.{left_none, left_more}
 use borrow.Author.Rules.{rules}
-use Rattle.ask_derive.proofs.chains.write_steps.Tie as tie
 use Rattle.ask_derive.proofs.chains.write_steps.Goals as goal
 
 pub loop-i-init : goal.loop-i-init

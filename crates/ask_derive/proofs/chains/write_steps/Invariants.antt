@@ -1,5 +1,4 @@
 use Prim.Native.Nat.{◌-◌, ◌*◌, ◌≤◌, ◌<◌}
-use Rattle.ask_derive.proofs.chains.write_steps.Tie as tie
 use Rattle.bits.specs.Matrix.{rel}
 use Rattle.finite.specs.Lists.{Written}
 use Rattle.finite.specs.Walk.{trail, along}

@@ -22,7 +22,7 @@ use Rattle.find_cycle.specs.Shown.{layer_size, shown_below, held_walk, held_leng
 
 -- ---- definitions
 
--- places from CYCLE-EDGES become the numbers of f, size of them; the others stay
+-- places from CYCLE_EDGES become the numbers of f, size of them; the others stay
 pub record Numbered (f : ℕ → ℕ) (size : ℕ) (c d : List ℕ) : Type 0 where
   pub len : length d ≡ length c
   pub number : (i : ℕ) → i < size → get_or d (CYCLE_EDGES + i) 0 ≡ f i

@@ -1,9 +1,10 @@
--- The two engines give the same answers. To be read like crates/promises/specs/Main.antt: each proof names a theorem of
--- SameLaws.antt.
+-- The two engines give the same answers. To be read like crates/model_promises/specs/Main.antt: each proof names a
+-- theorem of SameLaws.antt.
 --
--- `check` and `check_by_flags` (`verdict`) promise `Checked` by their contracts, `fill` and `fill_by_flags` (here)
--- promise `FilledBy`: of the table s the answer r, and what the work area w and the other buffer c hold afterwards.
--- Whoever keeps such a promise, on any table and with chains on or off, answers and leaves what every other does.
+-- `check` and `check_by_flags` (`ask_check::check`) promise `Checked` by their contracts, `fill` and `fill_by_flags`
+-- (here) promise `FilledBy`: of the table s the answer r, and what the work area w and the other buffer c hold
+-- afterwards. Whoever keeps such a promise, on any table and with chains on or off, answers and leaves what every other
+-- does.
 use Rattle.std.specs.Prelude.{◌≡◌, Bool, List, ℕ, ◌<◌, get_or}
 use Rattle.model.specs.declared.CheckAnswer.{CheckAnswer}
 use Rattle.model.specs.declared.CheckAnswer.TheVariants as checks

@@ -54,7 +54,7 @@ joined f s = header_of f s ++ (place_bytes f ++ (row_bytes f ++ (s ++ dependency
 unfoldable pub of_both : {A : Type 0} → (ℕ → ℕ → A) → (List ℕ → A) → List ℕ → List ℕ → A
 of_both refused one f s = cond (eqb (pieces_fault f s) 0) (one (joined f s)) (refused (pieces_fault f s) 0)
 
--- from 16 on everything is tested of the joined table, whose 1 to 4 pass (law `joined-shape`)
+-- from 16 on everything is tested of the joined table, whose 1 to 4 pass (law `joined_shape`)
 unfoldable pub admission_both : Bool → List ℕ → List ℕ → Admission
 admission_both blanks f s = of_both Refused (admission blanks) f s
 

@@ -14,7 +14,7 @@ use Rattle.door_write.specs.Encode.{with_hosts, table_size, encode}
 
 -- ---- 2, 3, 16, 17: values that no bytes are made of
 
--- 2: versions VERSION-PLAIN to VERSION-HOSTS
+-- 2: versions VERSION_PLAIN to VERSION_HOSTS
 unfoldable pub version_known : ℕ → Bool
 version_known version = leb VERSION_PLAIN version and leb version VERSION_HOSTS
 

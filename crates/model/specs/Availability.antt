@@ -24,7 +24,7 @@ covers_of q r b = cond (plain q) (same_reference q r and touches q b) (class_in 
 unfoldable pub public_write : Row → Row → Bool
 public_write r q = writes r and non_private r and non_private q and same_reference r q
 
--- ---- L3 of single operations: the rules' own sentence, over moments. It is `L3` below where the device has no chains (law `single-elements`)
+-- ---- L3 of single operations: the rules' own sentence, over moments. It is `L3` below where the device has no chains (law `single_elements`)
 
 -- x's agent makes b available at the moment c, after x
 unfoldable pub single_available : Table → ℕ → ℕ → ℕ → Bool

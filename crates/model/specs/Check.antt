@@ -62,7 +62,7 @@ check_answer (overwritten y z b) = Overwritten y z b
 check_answer (race x y b) = Race x y b
 check_answer race_free = RaceFree
 
--- the cycle's numbers: its rows from place 0, its edge numbers from place CYCLE-EDGES, other places zero
+-- the cycle's numbers: its rows from place 0, its edge numbers from place CYCLE_EDGES, other places zero
 unfoldable pub cycle_number : List ℕ → List ℕ → ℕ → ℕ
 cycle_number rows edges k = cond (ltb k CYCLE_EDGES) (get_or rows k 0) (get_or edges (k - CYCLE_EDGES) 0)
 

@@ -44,7 +44,7 @@ from_acquire t s m n = holding t s m and acquires (t.row (row_in m)) and concern
 unfoldable pub by_system : Table → ℕ → ℕ → Bool
 by_system t m n = eqb (part m) AT and eqb (part n) AT and t.depends (row_in m) (row_in n)
 
--- the direct cases are numbers 1 to CASES; 1 to ROW-CASES go by rows, and the last by dependencies
+-- the direct cases are numbers 1 to CASES; 1 to ROW_CASES go by rows, and the last by dependencies
 abbrev pub ROW_CASES : ℕ
 ROW_CASES = 3
 

@@ -20,7 +20,7 @@ buffers_fit needs work buffer = leb WORK work and leb needs buffer
 
 -- ---- 1 to 4: the header
 
--- versions VERSION-PLAIN to VERSION-HOSTS
+-- versions VERSION_PLAIN to VERSION_HOSTS
 unfoldable pub version_fits : List ℕ → Bool
 version_fits s = leb VERSION_PLAIN (version_at s) and leb (version_at s) VERSION_HOSTS and eqb (zero_at s) 0
 

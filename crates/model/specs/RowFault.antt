@@ -70,7 +70,7 @@ kind_fits r source =
     (not (plain r) or plain_fits r) and (not (atomic r) or atomic_fits r) and (not (barrier r) or barrier_fits r)
     and (plain r or semantics_fit r) and (reads r or eqb source INITIAL) and (ranked r or eqb r.rank 0) and bytes_fit r
 
--- 7, atomic rows: ATOMIC-SHORT or ATOMIC-LONG bytes, whose number divides the start
+-- 7, atomic rows: ATOMIC_SHORT or ATOMIC_LONG bytes, whose number divides the start
 unfoldable pub atomic_extent_fits : Row → Bool
 atomic_extent_fits r =
     (eqb r.size ATOMIC_SHORT and eqb (r.start % ATOMIC_SHORT) 0) or (eqb r.size ATOMIC_LONG and eqb (r.start % ATOMIC_LONG) 0)

@@ -65,7 +65,7 @@ outside_at t i m j = outside (t.row i) (t.row m) (t.row j)
 unfoldable pub begins : Table → ℕ → ℕ → Bool
 begins t i m = rival (t.row i) (t.row m) and not (any_below i (outside_at t i m) or outside_at t i m i)
 
--- no run of consecutive counts has all of them: none that begins with one of them does (law `unfit-is`)
+-- no run of consecutive counts has all of them: none that begins with one of them does (law `unfit_is`)
 unfoldable pub unfit : Table → ℕ → Bool
 unfit t i = t.counted and ranked (t.row i) and not (any_below i (begins t i) or begins t i i)
 

@@ -1,6 +1,6 @@
 -- What is promised of a table in two pieces, of any bytes and any buffers. To be read like
--- crates/promises/specs/Main.antt: each proof names a theorem of a page beside this one. The notation, the words and the
--- meanings are those of specs/Pieces.antt.
+-- crates/model_promises/specs/Main.antt: each proof names a theorem of a page beside this one. The notation, the words
+-- and the meanings are those of specs/Pieces.antt.
 use Rattle.std.specs.Prelude.{◌≡◌, Bool, List, [], ◌++◌, ◌⊎◌, ◌↔◌, ℕ, ◌+◌, ◌/◌, ◌<◌, length}
 use Rattle.model.specs.declared.{Admission.Admission, Reason.Reason, ReportAnswer.ReportAnswer}
 use Rattle.model.specs.Limits.{CYCLE, SOURCES}

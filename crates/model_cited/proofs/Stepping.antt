@@ -1,6 +1,6 @@
 -- What is promised of stepping through a table's rows, of any bytes and any place. To be read like
--- crates/promises/specs/Main.antt: each proof names a theorem of a page beside this one. The notation, the words and the
--- meanings are those of specs/Stepping.antt.
+-- crates/model_promises/specs/Main.antt: each proof names a theorem of a page beside this one. The notation, the words
+-- and the meanings are those of specs/Stepping.antt.
 use Rattle.std.specs.Prelude.{◌≡◌, List, ◌↔◌, ℕ, ◌*◌, ◌≤◌, take, drop}
 use Rattle.model.specs.declared.{Row.Row, Source.Source}
 use Rattle.model.specs.Header.{ROW_BYTES, row_bytes}

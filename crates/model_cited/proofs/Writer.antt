@@ -1,6 +1,6 @@
 -- What is promised of the writer of tables and of its reader, of any values, bytes and buffers. To be read like
--- crates/promises/specs/Main.antt: each proof names a theorem of a page beside this one or of specs/ReadExactly.antt. The
--- notation, the words and the meanings are those of specs/Writer.antt.
+-- crates/model_promises/specs/Main.antt: each proof names a theorem of a page beside this one or of
+-- specs/ReadExactly.antt. The notation, the words and the meanings are those of specs/Writer.antt.
 use Rattle.std.specs.Prelude.{◌≡◌, true, false, List, ◌↔◌, ℕ, ◌*◌, ◌≤◌, ◌<◌, length, take, drop}
 use Rattle.model.specs.Limits.{ROWS}
 use Rattle.door_write.specs.declared.{Entry.Entry, Dependencies.Dependencies}

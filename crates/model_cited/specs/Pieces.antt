@@ -1,23 +1,24 @@
 -- What the answers about a table in two pieces mean, of any bytes and any buffers. To be read like
--- crates/promises/specs/Main.antt. What is promised is in proofs/Pieces.antt, in these words.
+-- crates/model_promises/specs/Main.antt. What is promised is in proofs/Pieces.antt, in these words.
 --
 -- The notation: (x : ℕ) → P is "for every x, P"; (x : ℕ) × P "there is an x with P"; A × B "A and B"; A ⊎ B "A or B";
 -- A → ⊥ "not A"; A ↔ B "A exactly when B"; a ≡ b "a is b"; x ++ y is x, then y. What stands behind `module _` is of all
 -- that is indented below it. `abbrev` gives a name to what follows it; λ t. X is X as a matter of t.
 --
 -- The words: f is the first piece, an ordinary table, and s the second, the bytes of rows that are added after f's.
--- `rows_both f s` is how many rows both have, `joined f s` the one table they make (crates/pieces/specs/Pieces.antt).
--- `HeaderRefuses`, `HeaderPasses`, `PairRefuses`, `PairPasses`, `RowsHeld` and `OfPair` are in Terms.antt, `Short` (a
--- lent buffer is too short) and `Bytes` (the numbers are bytes, as those of a `&[u8]` are, and as every fill ensures)
--- in crates/promises/specs/Terms.antt, `CheckMeans` and its like in crates/promises/specs/Main.antt. `ROW-BYTES` is 16.
+-- `rows_both f s` is how many rows both have, `joined f s` the one table they make
+-- (crates/door_pieces/specs/Pieces.antt). `HeaderRefuses`, `HeaderPasses`, `PairRefuses`, `PairPasses`, `RowsHeld` and
+-- `OfPair` are in Terms.antt, `Short` (a lent buffer is too short) and `Bytes` (the numbers are bytes, as those of a
+-- `&[u8]` are, and as every fill ensures) in crates/model_promises/specs/Terms.antt, `CheckMeans` and its like in
+-- crates/model_promises/specs/Main.antt. `ROW_BYTES` is 16.
 --
 -- From a function to its meaning: the contract of a function is an equation. This page speaks of its right side:
---   verdict::check_both   is `check_answer (check_both …)`    and leaves what a check leaves, of `check_both …`
---   filling::fill_both    is `fill_answer (fill_both …)`      and leaves what a fill leaves, of `fill_both …`
---   report::report_both   is `report_both …`                 and leaves what a check leaves, of `check_both …`
---   reasons::derive_both  is `derive_answer (derive_both …)`  and leaves what a derivation leaves, of `derive_both …`
---   reader::accepts_both  is `accept_answer (judge_both …)`
---   pieces::pieces_fault  is `pieces_fault f s`, row_part `row_part f s n`, row_place `row_place f s n`
+--   ask_check::check::check_both is `check_answer (check_both …)` and leaves what a check leaves, of `check_both …`
+--   ask_fill::fill_both is `fill_answer (fill_both …)` and leaves what a fill leaves, of `fill_both …`
+--   ask_report::report_both is `report_both …` and leaves what a check leaves, of `check_both …`
+--   ask_derive::derive_both is `derive_answer (derive_both …)` and leaves what a derivation leaves, of `derive_both …`
+--   ask_accepts::accepts_both is `accept_answer (judge_both …)`
+--   door_pieces::pieces_fault is `pieces_fault f s`, row_part `row_part f s n`, row_place `row_place f s n`
 use Rattle.std.specs.Prelude.{◌≡◌, List, [], ◌⊎◌, ℕ, ◌+◌, ◌-◌, ◌*◌, ◌≤◌, ◌<◌, take, drop}
 use Rattle.model.specs.Limits.{STEPS}
 use Rattle.model.specs.Header.{ROW_BYTES, rows_at, rows_begin, row_bytes}

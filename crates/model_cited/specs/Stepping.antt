@@ -1,21 +1,21 @@
 -- What the answers of stepping through a table's rows mean, of any bytes and any place. To be read like
--- crates/promises/specs/Main.antt. What is promised is in proofs/Stepping.antt, in these words.
+-- crates/model_promises/specs/Main.antt. What is promised is in proofs/Stepping.antt, in these words.
 --
 -- The notation: (x : ℕ) → P is "for every x, P"; (x : ℕ) × P "there is an x with P"; A × B "A and B"; A ⊎ B "A or B";
 -- A → ⊥ "not A"; A ↔ B "A exactly when B"; a ≡ b "a is b". `r.table` is a field. What stands behind `module _` is of
 -- all that is indented below it. `abbrev` gives a name to what follows it.
 --
 -- The words: `Fillable s` says that a fill doesn't refuse the table s, buffers aside, and `Unfillable s n j` that it
--- does, with number n at row j (crates/promises/specs/Terms.antt); `rows_at s` is the count of its rows, `row_bytes s`
--- their bytes, `row_of (row_bytes s) i` row i as a value and `source_of (row_bytes s) i` its source; `source n` is the
--- source n as a value (Terms.antt); `row_list r n` is the sixteen bytes of a row r with the source n
--- (crates/writer/specs/Encode.antt); `Bytes s` says that the numbers of s are bytes, as those of a `&[u8]` are.
+-- does, with number n at row j (crates/model_promises/specs/Terms.antt); `rows_at s` is the count of its rows,
+-- `row_bytes s` their bytes, `row_of (row_bytes s) i` row i as a value and `source_of (row_bytes s) i` its source;
+-- `source n` is the source n as a value (Terms.antt); `row_list r n` is the sixteen bytes of a row r with the source n
+-- (crates/door_write/specs/Encode.antt); `Bytes s` says that the numbers of s are bytes, as those of a `&[u8]` are.
 --
 -- From a function to its meaning: the contract of a function is an equation. This page speaks of its right side:
---   stepping::step_from   is `stepped_at s i`: a reader opened on the table s, put at place i, and one step of it
---   stepping::open        says `admission true s` and gives a reader r with `Opens s r`
---   RowReader::next       is `steps_of r i` at call i, counted from 0
--- crates/numbers/specs/Main.antt has the number that C gets for a step, and what its buffer then holds.
+--   door_step::step_from        is `stepped_at s i`: a reader opened on the table s, put at place i, and one step of it
+--   door_step::open             says `admission true s` and gives a reader r with `Opens s r`
+--   door_step::RowReader::next  is `steps_of r i` at call i, counted from 0
+-- crates/stramashly_numbers/specs/Main.antt has the number that C gets for a step, and what its buffer then holds.
 use Rattle.std.specs.Prelude.{◌≡◌, List, ◌⊎◌, ℕ, ◌+◌, ◌≤◌, ◌<◌}
 use Rattle.model.specs.Table.{row_of, source_of}
 use Rattle.model.specs.Header.{rows_at, row_bytes}

@@ -1,26 +1,27 @@
 -- What the answers of the writer of tables and of its reader mean, of any values, bytes and buffers. To be read like
--- crates/promises/specs/Main.antt. What is promised is in proofs/Writer.antt, in these words.
+-- crates/model_promises/specs/Main.antt. What is promised is in proofs/Writer.antt, in these words.
 --
 -- The notation: (x : ℕ) → P is "for every x, P"; A × B "A and B"; A ⊎ B "A or B"; A → ⊥ "not A"; A ↔ B "A exactly when
 -- B"; a ≡ b "a is b"; `take n x` is the first n of x and `drop n x` the rest. What stands behind `module _` is of all
 -- that is indented below it. `abbrev` gives a name to what follows it.
 --
 -- The words: a table is written of a version, so many agents with the places p, so many rows l, each with its source,
--- and the dependencies d; `encode version agents p rows l d` is its bytes (crates/writer/specs/Encode.antt), whatever
--- the values, and `buffer_after` what a buffer holds afterwards (Answer.antt there). `WriteRefuses` and `Says` are in
--- Terms.antt; `Fits` says that the values themselves are not refused (crates/writer/specs/ValueLaws.antt), `Fillable s`
--- that a fill doesn't refuse the table s, buffers aside, and `Unfillable s n i` that it does, with number n at row i
--- (crates/promises/specs/Terms.antt). `…In` are the values in lent parts (crates/writer/specs/Parts.antt): four numbers
--- for a place, sixteen bytes for a row, two numbers for a dependency. `PLACE-NUMBERS` is 4 and `ROW-BYTES` 16.
--- What a caller's types give: `Bytes s`, each number is below 256; `Numbers q`, each is below 65536; `Typed …`, the
--- numbers among the values fit their types (crates/writer/specs/EncodeLaws.antt).
+-- and the dependencies d; `encode version agents p rows l d` is its bytes (crates/door_write/specs/Encode.antt),
+-- whatever the values, and `buffer_after` what a buffer holds afterwards (Answer.antt there). `WriteRefuses` and `Says`
+-- are in Terms.antt; `Fits` says that the values themselves are not refused (crates/door_write/specs/ValueLaws.antt),
+-- `Fillable s` that a fill doesn't refuse the table s, buffers aside, and `Unfillable s n i` that it does, with number
+-- n at row i (crates/model_promises/specs/Terms.antt). `…_in` are the values in lent parts
+-- (crates/door_write/specs/Parts.antt): four numbers for a place, sixteen bytes for a row, two numbers for a
+-- dependency. `PLACE_NUMBERS` is 4 and `ROW_BYTES` 16. What a caller's types give: `Bytes s`, each number is below 256;
+-- `Numbers q`, each is below 65536; `Typed …`, the numbers among the values fit their types
+-- (crates/door_write/specs/EncodeLaws.antt).
 --
 -- From a function to its meaning: the contract of a function is an equation. This page speaks of its right side:
---   writer::write             is `write_answer …`, and leaves `buffer_after (write_answer …) (encode …) out`
---   writer::write_parts       is `parts_answer …`, and leaves `buffer_after (parts_answer …) (parts_table …) out`
---   writer::read_parts        is `read_answer …`, and leaves `places_after …`, `rows_after …` and `dependencies_after …`
---   writer::read_entries      is `entries_of s`, read_dependencies `dependencies_of s`
--- crates/numbers/specs/Main.antt has the number that C gets.
+--   door_write::write is `write_answer …`, and leaves `buffer_after (write_answer …) (encode …) out`
+--   door_write::parts::write_parts is `parts_answer …`, and leaves `buffer_after (parts_answer …) (parts_table …) out`
+--   door_write::read::read_parts is `read_answer …`, and leaves `places_after …`, `rows_after …` and `dependencies_after …`
+--   door_write::read::read_entries is `entries_of s`, read_dependencies `dependencies_of s`
+-- crates/stramashly_numbers/specs/Main.antt has the number that C gets.
 use Rattle.std.specs.Prelude.{◌≡◌, true, false, List, ◌⊎◌, ℕ, ◌≤◌, length}
 use Rattle.door_write.specs.declared.{Entry.Entry, Dependencies.Dependencies}
 use Rattle.door_write.specs.declared.{WriteAnswer.WriteAnswer, ReadAnswer.ReadAnswer}

@@ -70,7 +70,7 @@ rank_small s bytes i =
 
 -- ---- two fillings with the same sources are one
 
--- byte k after the first b bytes is byte (k - b) % ROW-BYTES of row (k - b) / ROW-BYTES
+-- byte k after the first b bytes is byte (k - b) % ROW_BYTES of row (k - b) / ROW_BYTES
 spot : (b k : ℕ) → b ≤ k → k ≡ b + ((k - b) / ROW_BYTES * ROW_BYTES + (k - b) % ROW_BYTES)
 spot b k l = omega arith
 

@@ -1,10 +1,10 @@
--- The order of the rows in a table doesn't matter. To be read like crates/promises/specs/Main.antt: each proof names a
--- theorem of a page beside this one.
+-- The order of the rows in a table doesn't matter. To be read like crates/model_promises/specs/Main.antt: each proof
+-- names a theorem of a page beside this one.
 --
--- `Moved s s' π` (specs/Moved.antt) says that s' is the table s with its rows moved: row i of s is row `π.to i` of s', each
--- agent's own rows keep their order, sources and dependencies are renumbered. `check_word` and `fill_word`
--- (specs/VerdictAlike.antt) keep of an answer its word alone: race-free, race, inconsistent, none, filled.
--- Both tables are accepted, each with buffers of its own; the switch `chains` is any, and so is the version.
+-- `Moved s s' π` (specs/Moved.antt) says that s' is the table s with its rows moved: row i of s is row `π.to i` of s',
+-- each agent's own rows keep their order, sources and dependencies are renumbered. `check_word` and `fill_word`
+-- (specs/VerdictAlike.antt) keep of an answer its word alone: race-free, race, inconsistent, none, filled. Both tables
+-- are accepted, each with buffers of its own; the switch `chains` is any, and so is the version.
 use Rattle.std.specs.Prelude.{◌≡◌, Bool, List, ℕ, ◌<◌, length, get_or}
 use Rattle.model.specs.Header.{rows_at}
 use Rattle.model.specs.Check.{check}

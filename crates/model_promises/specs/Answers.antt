@@ -1,6 +1,6 @@
 -- What a caller gets: each case of an answer is given exactly for the verdict, outcome or judgement of its name, with its numbers; and what is
 -- left in the lent buffers. That a report refuses, or shows a cycle or an overwritten read, exactly as a check does stands in Report.antt
--- (`says-refused`, `says-cycle`, `says-overwritten`). Assumes nothing.
+-- (`says_refused`, `says_cycle`, `says_overwritten`). Assumes nothing.
 use Rattle.std.specs.Prelude.{◌≡◌, refl, List, ◌++◌, ◌⊎◌, ◌↔◌, ℕ, length, drop, replicate}
 use Rattle.std.proofs.Common.{sym, ap, ◌∙◌, inl, inr, arith, eq-eqb, ne_eqb}
 use Rattle.std.proofs.Math.Decide.{ℕ_discrete}

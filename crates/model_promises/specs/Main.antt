@@ -11,12 +11,12 @@
 -- `…Refuses … n i` that refusal n at row i is due: 11 for a short buffer, else what `admission` says (Refusal.antt).
 --
 -- From a function to its meaning: the contract of an entry point is an equation. This page speaks of its right side:
---   verdict::check    is `check_answer (check …)`, and leaves `work_after (check …)` and `cycle_after (check …)`
---   filling::fill     is `fill_answer (fill …)`, and leaves `work_after (fill …)` and `sources_after (fill …)`
---   report::report    is `report …`, and leaves what a check leaves
---   reasons::derive   is `derive_answer (derive …)`, and leaves `work_after (derive …)` and `chain_after (derive …)`
---   reader::accepts   is `accept_answer (judge …)`
--- Callers.antt has each case of these answers; crates/numbers/specs/Main.antt the number that C gets.
+--   ask_check::check::check is `check_answer (check …)`, and leaves `work_after (check …)` and `cycle_after (check …)`
+--   ask_fill::fill is `fill_answer (fill …)`, and leaves `work_after (fill …)` and `sources_after (fill …)`
+--   ask_report::report is `report …`, and leaves what a check leaves
+--   ask_derive::derive is `derive_answer (derive …)`, and leaves `work_after (derive …)` and `chain_after (derive …)`
+--   ask_accepts::accepts is `accept_answer (judge …)`
+-- Callers.antt has each case of these answers; crates/stramashly_numbers/specs/Main.antt the number that C gets.
 -- Throughout, s is the table, any bytes at all; `chains` the switch; work and buffer the lengths of the lent buffers.
 -- `Bytes s`, which a fill's meaning asks for, says that its numbers are bytes; the contract of every fill ensures it.
 use Rattle.std.specs.Prelude.{◌≡◌, Bool, true, false, List, [], ◌++◌, ◌⊎◌, ◌↔◌, ℕ, ◌<◌, length, drop, replicate}
@@ -180,7 +180,7 @@ demand_1_derive = beside.ReasonExactly.derive_demand_1
 -- ==== Demand 2. The verdict is exact. Demand 3. So is a fill
 
 module _ (chains : Bool) (s : List ℕ) (work buffer : ℕ) where
-  -- "cycle" or "overwritten" is said exactly when axiom A or axiom B is broken; check-means has what is then shown
+  -- "cycle" or "overwritten" is said exactly when axiom A or axiom B is broken; check_means has what is then shown
   pub demand_2_inconsistent : SaysInconsistent (check chains s work buffer)
       ↔ (CheckHears s work buffer
       × (Cyclic (table_under chains s) (sources_of s) ⊎ Overwritten (table_under chains s) (sources_of s)))
@@ -188,20 +188,20 @@ module _ (chains : Bool) (s : List ℕ) (work buffer : ℕ) where
 
   -- of a table that breaks neither axiom one of two is said: "race-free", and then each conflicting pair is a pair of
   -- mutually-ordered atomics or has order at each byte that it shares; or "race", with the first racing pair in row
-  -- order and its lowest byte without order. check-means has the other direction
+  -- order and its lowest byte without order. check_means has the other direction
   pub demand_2_consistent : CheckHears s work buffer → Consistent (table_under chains s) (sources_of s)
       → ((check chains s work buffer ≡ Verdict.race_free) × RaceFree (table_under chains s))
       ⊎ ((x : ℕ) × (y : ℕ) × (b : ℕ) × (check chains s work buffer ≡ Verdict.race x y b)
       × FirstRace (table_under chains s) x y b)
   demand_2_consistent = beside.CheckExactly.consistent_said chains s work buffer
 
-  -- a fill says "race" exactly when some pair races; fill-means has that it shows the first one and its lowest byte
+  -- a fill says "race" exactly when some pair races; fill_means has that it shows the first one and its lowest byte
   pub demand_3_race : ((x : ℕ) × (y : ℕ) × (b : ℕ) × (fill chains s work buffer ≡ Outcome.race x y b))
       ↔ (FillHears s work buffer × SomeRace (table_under chains s))
   demand_3_race = beside.FillExactly.some_race_exactly chains s work buffer
 
   -- of a table without a race: it fills exactly when there is a filling that is well formed and consistent, and says
-  -- "none" exactly when there isn't; fill-means has that what it hands back is such a filling and the only one
+  -- "none" exactly when there isn't; fill_means has that what it hands back is such a filling and the only one
   pub demand_3_filled : Bytes s → FillHears s work buffer → NoRace (table_under chains s)
       → (((l : List ℕ) × (fill chains s work buffer ≡ Outcome.filled l)) ↔ ((f : List ℕ) × Good chains s f))
       × ((fill chains s work buffer ≡ Outcome.none) ↔ ((f : List ℕ) → Good chains s f → ⊥))
@@ -248,11 +248,11 @@ chains_order_more = ordered_more
 
 -- ==== Pages that promise more
 --
---   Callers.antt                         each case of an answer's enum, and what is left in the lent buffers
---   Requests.antt                        change requests 5, 8 and 10: what they left as it was, and the order of ranks
---   crates/numbers/specs/Main.antt       the number that C gets: it has one reading, and what it says
---   crates/model_page_order/proofs/Page.antt  a table with its rows moved is answered alike, in one piece or two
---   crates/model_cited/proofs/Pieces.antt     a table in two pieces is answered as the joined one
---   crates/model_cited/proofs/Writer.antt     what is written reads back, what was read is written again
---   crates/model_cited/proofs/Stepping.antt   the stepping reader gives rows 0 onward, each once, then the end
---   crates/filling/specs/Same.antt       the two engines of check and fill answer the same, and leave the same
+--   Callers.antt                        each case of an answer's enum, and what is left in the lent buffers
+--   Requests.antt                       change requests 5, 8 and 10: what they left as it was, and the order of ranks
+--   stramashly_numbers/specs/Main.antt  the number that C gets: it has one reading, and what it says
+--   model_page_order/proofs/Page.antt   a table with its rows moved is answered alike, in one piece or two
+--   model_cited/proofs/Pieces.antt      a table in two pieces is answered as the joined one
+--   model_cited/proofs/Writer.antt      what is written reads back, what was read is written again
+--   model_cited/proofs/Stepping.antt    the stepping reader gives rows 0 onward, each once, then the end
+--   ask_fill/specs/Same.antt            the two engines of check and fill answer the same, and leave the same

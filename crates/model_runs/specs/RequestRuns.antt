@@ -51,7 +51,7 @@ controls =
 
 -- ---- counted ranks
 
--- Q-rmw with the release at rank 65535 and the RMW at rank 0, in version v
+-- Q_rmw with the release at rank 65535 and the RMW at rank 0, in version v
 abbrev wrapped : ℕ → List ℕ
 wrapped v = set (change 3 1 14 255 (change 3 1 15 255 (change 3 2 15 0 Q_rmw))) 4 v
 

@@ -1,8 +1,9 @@
--- What the number that C gets says, to be read like crates/promises/specs/Main.antt: each proof names a theorem of a page
--- beside this one. The contract of a C function is an equation `r ≡ pack… (…)` (crates/stramashly/specs/Packed.antt).
+-- What the number that C gets says, to be read like crates/model_promises/specs/Main.antt: each proof names a theorem
+-- of a page beside this one. The contract of a C function is an equation `r ≡ pack… (…)`
+-- (crates/stramashly/specs/Packed.antt).
 --
--- `CODE`, `A`, `B` and `C` (Reading.antt) are the header's macros STRAMASHLY_CODE, _A, _B and _C. `read… r` is the answer
--- that a number r is read as.
+-- `CODE`, `A`, `B` and `C` (Reading.antt) are the header's macros STRAMASHLY_CODE, _A, _B and _C. `read… r` is the
+-- answer that a number r is read as.
 use Rattle.std.specs.Prelude.{◌≡◌, Bool, true, List, ◌↔◌, ℕ, ◌+◌, ◌*◌, ◌≤◌, ◌<◌, length, take, drop, Float}
 use Rattle.model.specs.declared.Admission.TheVariants.{Admitted, Refused}
 use Rattle.model.specs.declared.{Reason.Reason, Report.Report, ReportAnswer.ReportAnswer}

@@ -1,8 +1,10 @@
 // Sets that stand in a lent list of words, two words to a set: set k of those from word `base` on.
-ghost use Rattle.std.specs.Prelude.{◌≡◌, ◌+◌, ◌*◌, ◌≤◌, ◌<◌, length};
+ghost use Rattle.std.specs.Prelude.{◌≡◌, ℕ, ◌+◌, ◌*◌, ◌≤◌, ◌<◌, length};
+ghost use Rattle.finite.specs.Below.{any_below};
 ghost use Rattle.model.specs.Limits.{ROWS};
 ghost use Rattle.sets_of_rows.specs.Member.{in_set};
 ghost use Rattle.sets_of_rows.specs.Kept.{set_at, Stored, joined, added};
+ghost use Rattle.sets_of_rows.specs.Tasks.{leads};
 
 use crate::Set;
 
@@ -43,4 +45,17 @@ pub fn put_bit(w: &mut [u64], base: usize, k: usize, i: usize)
     ensures { Stored (base + 2 * k) (added w.old (base + 2 * k) i) w.old w.new }
 {
     w[base + 2 * k + i / 64] |= 1u64 << (i % 64);
+}
+
+// The rows that some member's set has: what the relation that the sets from word `base` on are leads to from x.
+// Ruled out: one that leaves out the last member.
+pub fn union(w: &[u64], base: usize, x: Set) -> Set
+    requires { base + 2 * ROWS ≤ length w.now }
+    ensures { (j : ℕ) → in_set result j ≡ any_below ROWS (leads w.now base x j) }
+{
+    let mut r = Set::none();
+    for i in x {
+        r |= get(w, base, i);
+    }
+    r
 }

@@ -1,16 +1,18 @@
 // Sets of rows by value: bit j of two words says whether row j is a member. Every contract speaks of members alone.
 #![tactic(auto)]
 
-ghost use Rattle.std.specs.Prelude.{◌≡◌, true, false, not, ℕ, ◌-◌, ◌^◌, ◌≤◌, ◌<◌, eqb, ltb};
+ghost use Rattle.std.specs.Prelude.{◌≡◌, true, false, not, ℕ, ◌-◌, ◌^◌, ◌≤◌, ◌<◌, eqb, ltb, MatchOption};
+ghost use Rattle.std.specs.Iterator.{at_most};
 ghost use Rattle.finite.specs.Logic.{◌and◌, ◌or◌};
-ghost use Rattle.finite.specs.Below.{any_below, least};
+ghost use Rattle.finite.specs.Below.{any_below};
 ghost use Rattle.finite.specs.Count.{count_below};
 ghost use Rattle.model.specs.Limits.{ROWS};
 ghost use Rattle.sets_of_rows.specs.Member.{in_set};
-ghost use Rattle.sets_of_rows.specs.First.{First, Rest};
+ghost use Rattle.sets_of_rows.specs.First.{First, Rest, next};
+
+use std::ops::{BitAnd, BitOr, BitOrAssign, Sub};
 
 pub mod kept; // sets that stand in a lent list of words
-pub mod walk; // what goes over the members of a set
 
 // Rows 0 to 63 and rows 64 to 127.
 #[derive(Clone, Copy)]
@@ -24,33 +26,6 @@ const WORD: usize = 64;
 
 const ALL: u64 = 18446744073709551615;
 
-// ---- sets that are made
-
-pub fn none() -> Set
-    ensures { (j : ℕ) → in_set result j ≡ false }
-{
-    Set { lo: 0, hi: 0 }
-}
-
-// Row i alone.
-// Ruled out: one that has row i % 64.
-pub fn bit(i: usize) -> Set
-    requires { i < ROWS }
-    ensures { (j : ℕ) → in_set result j ≡ eqb j i }
-{
-    if i < WORD {
-        Set {
-            lo: 1u64 << i,
-            hi: 0,
-        }
-    } else {
-        Set {
-            lo: 0,
-            hi: 1u64 << (i - WORD),
-        }
-    }
-}
-
 // The lowest n bits of a word.
 fn low(n: usize) -> u64
     requires { n ≤ 64 }
@@ -59,145 +34,222 @@ fn low(n: usize) -> u64
     if n < WORD { (1u64 << n) - 1 } else { ALL }
 }
 
-// The rows before row n.
-pub fn below(n: usize) -> Set
-    requires { n ≤ ROWS }
-    ensures { (j : ℕ) → in_set result j ≡ ltb j n }
-{
-    if n < WORD {
-        Set { lo: low(n), hi: 0 }
-    } else {
-        Set {
-            lo: ALL,
-            hi: low(n - WORD),
+// ---- sets that are made
+
+impl Set {
+    pub fn none() -> Set
+        ensures { (j : ℕ) → in_set result j ≡ false }
+    {
+        Set { lo: 0, hi: 0 }
+    }
+
+    // Row i alone.
+    // Ruled out: one that has row i % 64.
+    pub fn bit(i: usize) -> Set
+        requires { i < ROWS }
+        ensures { (j : ℕ) → in_set result j ≡ eqb j i }
+    {
+        if i < WORD {
+            Set {
+                lo: 1u64 << i,
+                hi: 0,
+            }
+        } else {
+            Set {
+                lo: 0,
+                hi: 1u64 << (i - WORD),
+            }
         }
     }
-}
 
-// The rows after row i.
-// Ruled out: one that has row i; one that stops at row 64.
-pub fn above(i: usize) -> Set
-    requires { i < ROWS }
-    ensures { (j : ℕ) → in_set result j ≡ (ltb i j and ltb j ROWS) }
-{
-    if i < WORD {
-        Set {
-            lo: (ALL - 1) << i,
-            hi: ALL,
+    // The rows before row n.
+    pub fn below(n: usize) -> Set
+        requires { n ≤ ROWS }
+        ensures { (j : ℕ) → in_set result j ≡ ltb j n }
+    {
+        if n < WORD {
+            Set { lo: low(n), hi: 0 }
+        } else {
+            Set {
+                lo: ALL,
+                hi: low(n - WORD),
+            }
         }
-    } else {
-        Set {
-            lo: 0,
-            hi: (ALL - 1) << (i - WORD),
+    }
+
+    // The rows after row i.
+    // Ruled out: one that has row i; one that stops at row 64.
+    pub fn above(i: usize) -> Set
+        requires { i < ROWS }
+        ensures { (j : ℕ) → in_set result j ≡ (ltb i j and ltb j ROWS) }
+    {
+        if i < WORD {
+            Set {
+                lo: (ALL - 1) << i,
+                hi: ALL,
+            }
+        } else {
+            Set {
+                lo: 0,
+                hi: (ALL - 1) << (i - WORD),
+            }
         }
+    }
+
+    // The members where b holds, else none.
+    pub fn only_if(self, b: bool) -> Set
+        ensures { (j : ℕ) → in_set result j ≡ (b and in_set self j) }
+    {
+        if b { self } else { Set::none() }
+    }
+
+    // Without row i.
+    pub fn without(self, i: usize) -> Set
+        requires { i < ROWS }
+        ensures { (j : ℕ) → in_set result j ≡ (in_set self j and not (eqb j i)) }
+    {
+        self - Set::bit(i)
+    }
+
+    // Without the first member.
+    pub fn but_first(self) -> Set
+        requires { any_below ROWS (in_set self) ≡ true }
+        ensures { Rest self result }
+    {
+        if 0 < self.lo {
+            Set {
+                lo: self.lo & (self.lo - 1),
+                hi: self.hi,
+            }
+        } else {
+            Set {
+                lo: 0,
+                hi: self.hi & (self.hi - 1),
+            }
+        }
+    }
+
+    // ---- members
+
+    pub fn has(self, i: usize) -> bool
+        requires { i < ROWS }
+        ensures { result ≡ in_set self i }
+    {
+        if i < WORD {
+            return (self.lo >> i) % 2 == 1;
+        }
+        (self.hi >> (i - WORD)) % 2 == 1
+    }
+
+    // Whether there is a member.
+    pub fn has_any(self) -> bool
+        ensures { result ≡ any_below ROWS (in_set self) }
+    {
+        0 < (self.lo | self.hi)
+    }
+
+    // The first member.
+    // Ruled out: one that looks at the first word alone.
+    pub fn first(self) -> Option<usize>
+        ensures { MatchOption result (any_below ROWS (in_set self) ≡ false) (First self) }
+    {
+        if 0 < self.lo {
+            return Some(u64::trailing_zeros(self.lo) as usize);
+        }
+        if 0 < self.hi {
+            return Some(WORD + (u64::trailing_zeros(self.hi) as usize));
+        }
+        None
+    }
+
+    // How many members there are.
+    pub fn count(self) -> usize
+        ensures { (result ≡ count_below ROWS (in_set self)) × (result ≤ ROWS) }
+    {
+        (u64::count_ones(self.lo) as usize) + (u64::count_ones(self.hi) as usize)
     }
 }
 
 // ---- sets of sets
 
-pub fn or(a: Set, b: Set) -> Set
-    ensures { (j : ℕ) → in_set result j ≡ (in_set a j or in_set b j) }
-{
-    Set {
-        lo: a.lo | b.lo,
-        hi: a.hi | b.hi,
-    }
-}
+impl BitOr for Set {
+    type Output = Set;
 
-pub fn and(a: Set, b: Set) -> Set
-    ensures { (j : ℕ) → in_set result j ≡ (in_set a j and in_set b j) }
-{
-    Set {
-        lo: a.lo & b.lo,
-        hi: a.hi & b.hi,
-    }
-}
+    ghost bitor_gives = { λ a b r. (j : ℕ) → in_set r j ≡ (in_set a j or in_set b j) };
 
-// The members of a that b has not.
-pub fn less(a: Set, b: Set) -> Set
-    ensures { (j : ℕ) → in_set result j ≡ (in_set a j and not (in_set b j)) }
-{
-    Set {
-        lo: a.lo ^ (a.lo & b.lo),
-        hi: a.hi ^ (a.hi & b.hi),
-    }
-}
-
-// Without row i.
-pub fn drop(a: Set, i: usize) -> Set
-    requires { i < ROWS }
-    ensures { (j : ℕ) → in_set result j ≡ (in_set a j and not (eqb j i)) }
-{
-    less(a, bit(i))
-}
-
-// The members of a where b holds, else none.
-pub fn only_if(b: bool, a: Set) -> Set
-    ensures { (j : ℕ) → in_set result j ≡ (b and in_set a j) }
-{
-    if b { a } else { none() }
-}
-
-// ---- members
-
-pub fn has(a: Set, i: usize) -> bool
-    requires { i < ROWS }
-    ensures { result ≡ in_set a i }
-{
-    if i < WORD {
-        return (a.lo >> i) % 2 == 1;
-    }
-    (a.hi >> (i - WORD)) % 2 == 1
-}
-
-// Whether there is a member.
-pub fn some(a: Set) -> bool
-    ensures { result ≡ any_below ROWS (in_set a) }
-{
-    0 < (a.lo | a.hi)
-}
-
-// The first member, ROWS where there is none.
-// Ruled out: one that looks at the first word alone.
-pub fn first_or_end(a: Set) -> usize
-    ensures { (result ≡ least ROWS (in_set a)) × (result ≤ ROWS) }
-{
-    if 0 < a.lo {
-        u64::trailing_zeros(a.lo) as usize
-    } else {
-        WORD + (u64::trailing_zeros(a.hi) as usize)
-    }
-}
-
-// The first member of a set that has one.
-pub fn first(a: Set) -> usize
-    requires { any_below ROWS (in_set a) ≡ true }
-    ensures { First a result }
-{
-    first_or_end(a)
-}
-
-// The set without it.
-pub fn but_first(a: Set) -> Set
-    requires { any_below ROWS (in_set a) ≡ true }
-    ensures { Rest a result }
-{
-    if 0 < a.lo {
+    fn bitor(self, other: Set) -> Set {
         Set {
-            lo: a.lo & (a.lo - 1),
-            hi: a.hi,
-        }
-    } else {
-        Set {
-            lo: 0,
-            hi: a.hi & (a.hi - 1),
+            lo: self.lo | other.lo,
+            hi: self.hi | other.hi,
         }
     }
 }
 
-// How many members there are.
-pub fn count(a: Set) -> usize
-    ensures { (result ≡ count_below ROWS (in_set a)) × (result ≤ ROWS) }
-{
-    (u64::count_ones(a.lo) as usize) + (u64::count_ones(a.hi) as usize)
+impl BitOrAssign for Set {
+    ghost bitor_assign_gives = { λ a b r. (j : ℕ) → in_set r j ≡ (in_set a j or in_set b j) };
+
+    fn bitor_assign(&mut self, other: Set) {
+        *self = *self | other;
+    }
+}
+
+impl BitAnd for Set {
+    type Output = Set;
+
+    ghost bitand_gives = { λ a b r. (j : ℕ) → in_set r j ≡ (in_set a j and in_set b j) };
+
+    fn bitand(self, other: Set) -> Set {
+        Set {
+            lo: self.lo & other.lo,
+            hi: self.hi & other.hi,
+        }
+    }
+}
+
+// The members of the one that the other has not.
+impl Sub for Set {
+    type Output = Set;
+
+    ghost sub_gives = { λ a b r. (j : ℕ) → in_set r j ≡ (in_set a j and not (in_set b j)) };
+
+    fn sub(self, other: Set) -> Set {
+        Set {
+            lo: self.lo ^ (self.lo & other.lo),
+            hi: self.hi ^ (self.hi & other.hi),
+        }
+    }
+}
+
+// ---- over the members, first to last
+
+// Those that are left.
+#[derive(Drop)]
+pub struct Members {
+    pub left: Set,
+}
+
+impl Iterator for Members {
+    type Item = usize;
+
+    ghost next_gives = { λ s r t. MatchOption r ((any_below ROWS (in_set s.left) ≡ false) × (t ≡ s)) (λ i. First s.left i × Rest s.left t.left) };
+
+    ghost remaining = { λ s. at_most (ROWS - next s.left) };
+
+    fn next(&mut self) -> Option<usize> {
+        let i = self.left.first()?;
+        self.left = self.left.but_first();
+        Some(i)
+    }
+}
+
+impl IntoIterator for Set {
+    type Item = usize;
+
+    type IntoIter = Members;
+
+    ghost into_iter_gives = { λ s r. r.left ≡ s };
+
+    fn into_iter(self) -> Members {
+        Members { left: self }
+    }
 }

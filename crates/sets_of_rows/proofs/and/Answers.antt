@@ -1,5 +1,0 @@
-use Rattle.sets_of_rows.specs.Member.{and_is}
-use Rattle.sets_of_rows.proofs.and.Goals as goal
-
-pub returns : goal.returns
-returns c = and_is _ _

@@ -1,5 +1,0 @@
-use Rattle.sets_of_rows.specs.Member.{less_is}
-use Rattle.sets_of_rows.proofs.less.Goals as goal
-
-pub returns : goal.returns
-returns c = less_is _ _

@@ -1,5 +1,0 @@
-use Rattle.sets_of_rows.specs.Member.{or_is}
-use Rattle.sets_of_rows.proofs.or.Goals as goal
-
-pub returns : goal.returns
-returns c = or_is _ _

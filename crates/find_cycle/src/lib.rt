@@ -23,17 +23,13 @@ fn leads_back(w: &[u64], n: usize, x: usize, among: Set) -> bool
     ensures { result ≡ on_cycle n (rel w.now EDGE GRID) x }
 {
     let mut ahead = among;
-    let mut left = sets_of_rows::and(ahead, kept::get(w, work_area::EDGE, x));
-    while sets_of_rows::some(left) {
-        if sets_of_rows::has(left, x) {
+    let mut left = ahead & kept::get(w, work_area::EDGE, x);
+    while let Some(i) = left.first() {
+        if left.has(x) {
             return true;
         }
-        let i = sets_of_rows::first(left);
-        ahead = sets_of_rows::drop(ahead, i);
-        left = sets_of_rows::and(
-            ahead,
-            sets_of_rows::or(left, kept::get(w, work_area::EDGE, i)),
-        );
+        ahead = ahead.without(i);
+        left = ahead & (left | kept::get(w, work_area::EDGE, i));
     }
     false
 }
@@ -43,13 +39,12 @@ fn first_looping(w: &[u64], n: usize) -> usize
     requires { (n ≤ ROWS) × (WORK ≤ length w.now) × Looping n w.now }
     ensures { result ≡ cycle_start n (rel w.now EDGE GRID) }
 {
-    let mut left = sets_of_rows::and(sets_of_rows::below(n), kept::get(w, marks::MARKS, 0));
-    while sets_of_rows::some(left) {
-        let x = sets_of_rows::first(left);
+    let mut left = Set::below(n) & kept::get(w, marks::MARKS, 0);
+    while let Some(x) = left.first() {
         if leads_back(w, n, x, left) {
             return x;
         }
-        left = sets_of_rows::but_first(left);
+        left = left.but_first();
     }
     n
 }

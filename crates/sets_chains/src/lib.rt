@@ -32,9 +32,9 @@ fn make_available(t: &Run, n: usize, s: &[u64], a: usize, w: &mut [u64])
     ensures { MadeOne (table_in t.now n) n a w.old w.new }
 {
     let reach = sets_of_table::ask::reach(t, n, s, a);
-    let both = sets_of_rows::and(reach, sets_of_table::ask::hears(t, n, s, a));
-    let at = sets_of_rows::and(kept::get(w, sets_grids::AVAILABLE_AT, a), reach);
-    let visible = sets_of_rows::and(kept::get(w, sets_grids::AVAILABLE_VISIBLE, a), both);
+    let both = reach & sets_of_table::ask::hears(t, n, s, a);
+    let at = kept::get(w, sets_grids::AVAILABLE_AT, a) & reach;
+    let visible = kept::get(w, sets_grids::AVAILABLE_VISIBLE, a) & both;
     kept::put(w, sets_grids::AVAILABLE_TO, a, at);
     kept::put(w, sets_grids::VISIBLE_BY, a, visible);
 }
@@ -46,9 +46,9 @@ fn broader(s: &[u64], q: usize) -> Set
     requires { (q ≤ 4) × (WORDS ≤ length s.now) }
     ensures { (t : Table) (n : ℕ) → Opened t n s.now → Rows n (wider t q) result }
 {
-    let mut a = sets_of_rows::none();
+    let mut a = Set::none();
     for k in q + 1..BROADEST + 1 {
-        a = sets_of_rows::or(a, kept::get(s, sets_of_table::BY_SCOPE, k));
+        a |= kept::get(s, sets_of_table::BY_SCOPE, k);
     }
     a
 }
@@ -61,18 +61,11 @@ fn chain_out(t: &Run, n: usize, s: &[u64], q: usize, w: &mut [u64])
 {
     let broad = broader(s, q);
     let own = kept::get(s, sets_of_table::BY_SCOPE, q);
-    let mut left = sets_of_rows::and(sets_of_table::rows(s, sets_of_table::AVAILABLE), own);
-    while sets_of_rows::some(left) {
-        let a = sets_of_rows::first(left);
-        left = sets_of_rows::but_first(left);
-        let next = sets_of_rows::and(
-            sets_of_rows::and(kept::get(w, sets_grids::AVAILABLE_AVAILABLE, a), broad),
-            sets_of_table::ask::reach(t, n, s, a),
-        );
-        let all = sets_of_rows::or(
-            next,
-            sets_of_rows::walk::union(w, sets_grids::AVAILABLE_AVAILABLE, next),
-        );
+    for a in sets_of_table::rows(s, sets_of_table::AVAILABLE) & own {
+        let next = kept::get(w, sets_grids::AVAILABLE_AVAILABLE, a)
+            & broad
+            & sets_of_table::ask::reach(t, n, s, a);
+        let all = next | kept::union(w, sets_grids::AVAILABLE_AVAILABLE, next);
         kept::put(w, sets_grids::AVAILABLE_AVAILABLE, a, all);
     }
 }
@@ -85,19 +78,12 @@ fn chain_in(t: &Run, n: usize, s: &[u64], q: usize, w: &mut [u64])
 {
     let own = kept::get(s, sets_of_table::BY_SCOPE, q);
     let visible = sets_of_table::rows(s, sets_of_table::VISIBLE);
-    let narrow = sets_of_rows::less(visible, sets_of_rows::or(broader(s, q), own));
-    let mut left = sets_of_rows::and(visible, own);
-    while sets_of_rows::some(left) {
-        let v = sets_of_rows::first(left);
-        left = sets_of_rows::but_first(left);
-        let next = sets_of_rows::and(
-            sets_of_rows::and(kept::get(w, sets_grids::VISIBLE_VISIBLE, v), narrow),
-            sets_of_table::ask::hears(t, n, s, v),
-        );
-        let all = sets_of_rows::or(
-            next,
-            sets_of_rows::walk::union(w, sets_grids::VISIBLE_VISIBLE, next),
-        );
+    let narrow = visible - (broader(s, q) | own);
+    for v in visible & own {
+        let next = kept::get(w, sets_grids::VISIBLE_VISIBLE, v)
+            & narrow
+            & sets_of_table::ask::hears(t, n, s, v);
+        let all = next | kept::union(w, sets_grids::VISIBLE_VISIBLE, next);
         kept::put(w, sets_grids::VISIBLE_VISIBLE, v, all);
     }
 }
@@ -107,14 +93,11 @@ fn available_to(t: &Run, n: usize, s: &[u64], a: usize, chain: Set, w: &[u64]) -
     requires { ChainOf (table_in t.now n) n a chain × Given (table_in t.now n) n s.now w.now × After (table_in t.now n) n w.now }
     ensures { Rows n (meets (table_in t.now n) a) result }
 {
-    let mut left = chain;
-    let mut at = sets_of_rows::none();
-    while sets_of_rows::some(left) {
-        let c = sets_of_rows::first(left);
-        left = sets_of_rows::but_first(left);
+    let mut at = Set::none();
+    for c in chain {
         let domain = sets_of_table::ask::sharing(t, n, s, a, fields::scope(t, c));
-        let to = sets_of_rows::and(kept::get(w, sets_grids::AVAILABLE_AT, c), domain);
-        at = sets_of_rows::or(at, sets_of_rows::only_if(sets_of_rows::has(domain, c), to));
+        let to = kept::get(w, sets_grids::AVAILABLE_AT, c) & domain;
+        at |= to.only_if(domain.has(c));
     }
     at
 }
@@ -126,16 +109,12 @@ fn visible_by(t: &Run, n: usize, s: &[u64], a: usize, chain: Set, q: usize, w: &
     ensures { Rows n (wide_shown (table_in t.now n) n a q) result }
 {
     let domain = sets_of_table::ask::sharing(t, n, s, a, q);
-    let wide = sets_of_rows::or(kept::get(s, sets_of_table::BY_SCOPE, q), broader(s, q));
-    let inside = sets_of_rows::and(wide, domain);
-    let made = sets_of_rows::walk::union(
-        w,
-        sets_grids::AVAILABLE_VISIBLE,
-        sets_of_rows::and(chain, inside),
-    );
-    let met = sets_of_rows::and(made, inside);
-    let ends = sets_of_rows::walk::union(w, sets_grids::VISIBLE_VISIBLE, met);
-    sets_of_rows::and(sets_of_rows::or(met, ends), domain)
+    let wide = kept::get(s, sets_of_table::BY_SCOPE, q) | broader(s, q);
+    let inside = wide & domain;
+    let made = kept::union(w, sets_grids::AVAILABLE_VISIBLE, chain & inside);
+    let met = made & inside;
+    let ends = kept::union(w, sets_grids::VISIBLE_VISIBLE, met);
+    (met | ends) & domain
 }
 
 // What a makes available as the first of a chain, itself alone or more.
@@ -143,14 +122,11 @@ fn make_available_by_chains(t: &Run, n: usize, s: &[u64], a: usize, w: &mut [u64
     requires { Maker (table_in t.now n) n a × Ready (table_in t.now n) n true s.now w.old }
     ensures { MadeOne (table_in t.now n) n a w.old w.new }
 {
-    let chain = sets_of_rows::or(
-        kept::get(w, sets_grids::AVAILABLE_AVAILABLE, a),
-        sets_of_rows::bit(a),
-    );
+    let chain = kept::get(w, sets_grids::AVAILABLE_AVAILABLE, a) | Set::bit(a);
     let at = available_to(t, n, s, a, chain, w);
-    let mut visible = sets_of_rows::none();
+    let mut visible = Set::none();
     for q in 1..BROADEST + 1 {
-        visible = sets_of_rows::or(visible, visible_by(t, n, s, a, chain, q, w));
+        visible |= visible_by(t, n, s, a, chain, q, w);
     }
     kept::put(w, sets_grids::AVAILABLE_TO, a, at);
     kept::put(w, sets_grids::VISIBLE_BY, a, visible);
@@ -198,10 +174,7 @@ pub fn fill_availability(t: &Run, n: usize, s: &[u64], w: &mut [u64])
 {
     let chains = run::chains(t);
     prepare(t, n, s, chains, w);
-    let mut left = sets_of_table::rows(s, sets_of_table::AVAILABLE);
-    while sets_of_rows::some(left) {
-        let a = sets_of_rows::first(left);
-        left = sets_of_rows::but_first(left);
+    for a in sets_of_table::rows(s, sets_of_table::AVAILABLE) {
         make(t, n, s, a, chains, w);
     }
 }

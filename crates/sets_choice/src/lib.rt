@@ -36,16 +36,10 @@ fn writers_before(t: &Run, n: usize, s: &[u64], y: usize, w: &[u64]) -> Set
     requires { (y < n) × ToJudge (table_in t.now n) n s.now w.now }
     ensures { Rows n (written_by (table_in t.now n) y) result }
 {
-    let mut all = sets_of_rows::none();
-    let mut left = sets_of_rows::and(
-        kept::get(w, work_area::OVERLAP, y),
-        sets_of_table::rows(s, sets_of_table::WRITES),
-    );
-    while sets_of_rows::some(left) {
-        let z = sets_of_rows::first(left);
-        left = sets_of_rows::but_first(left);
-        let ordered = sets_of_rows::has(kept::get(w, sets_grids::SOME, z), y);
-        all = sets_of_rows::or(all, sets_of_rows::only_if(ordered, sets_of_rows::bit(z)));
+    let mut all = Set::none();
+    for z in kept::get(w, work_area::OVERLAP, y) & sets_of_table::rows(s, sets_of_table::WRITES) {
+        let ordered = kept::get(w, sets_grids::SOME, z).has(y);
+        all |= Set::bit(z).only_if(ordered);
     }
     all
 }
@@ -65,16 +59,10 @@ fn some_between(t: &Run, n: usize, source: usize, blank: Blank, w: &[u64]) -> bo
     requires { (source < n) × Choosing (table_in t.now n) n blank.y blank.writers w.now }
     ensures { result ≡ any_below n (between (table_in t.now n) blank.y source) }
 {
-    if sets_of_rows::some(sets_of_rows::and(
-        blank.writers,
-        kept::get(w, sets_grids::LATER, source),
-    )) {
+    if (blank.writers & kept::get(w, sets_grids::LATER, source)).has_any() {
         return true;
     }
-    let mut left = sets_of_rows::and(blank.writers, kept::get(w, sets_grids::SOME, source));
-    while sets_of_rows::some(left) {
-        let z = sets_of_rows::first(left);
-        left = sets_of_rows::but_first(left);
+    for z in blank.writers & kept::get(w, sets_grids::SOME, source) {
         if 0 < sets_overwritten::overwrites(t, n, source, z, blank.y, w) {
             return true;
         }
@@ -98,10 +86,7 @@ fn first_candidate(t: &Run, n: usize, blank: Blank, w: &[u64]) -> usize
     requires { Choosing (table_in t.now n) n blank.y blank.writers w.now }
     ensures { (result ≡ least n (candidate (table_in t.now n) blank.y)) × (result ≤ n) }
 {
-    let mut left = blank.writers;
-    while sets_of_rows::some(left) {
-        let source = sets_of_rows::first(left);
-        left = sets_of_rows::but_first(left);
+    for source in blank.writers {
         if is_candidate(t, n, source, blank, w) {
             return source;
         }
@@ -117,7 +102,7 @@ fn choice_of(t: &Run, n: usize, s: &[u64], y: usize, w: &[u64]) -> u16
     ensures { result ≡ choice (table_in t.now n) y }
 {
     let writers = writers_before(t, n, s, y, w);
-    if !sets_of_rows::some(writers) {
+    if !writers.has_any() {
         return Source::INITIAL.0;
     }
     first_candidate(t, n, Blank { y, writers }, w) as u16
@@ -130,7 +115,7 @@ fn chosen_at(t: &Run, n: usize, s: &[u64], i: usize, own: u16, w: &[u64]) -> u16
 {
     let plain = kept::get(s, sets_of_table::BY_KIND, kinds::PLAIN_READ as usize);
     let source = Source::of_row(own);
-    if sets_of_rows::has(plain, i) & source.is_blank() {
+    if plain.has(i) & source.is_blank() {
         return choice_of(t, n, s, i, w);
     }
     own

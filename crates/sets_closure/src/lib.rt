@@ -26,7 +26,7 @@ pub fn of_none(t: &Run, n: usize, s: &[u64], ends: Set) -> Concerned
     requires { Told (table_in t.now n) n ends × Opened (table_in t.now n) n s.now }
     ensures { Concerns (table_in t.now n) n NONE ends result }
 {
-    let none = sets_of_rows::none();
+    let none = Set::none();
     Concerned {
         nodes: ends,
         releases: none,
@@ -42,13 +42,10 @@ fn holding(s: &[u64], c: usize) -> Set
     requires { (c < 16) × (WORDS ≤ length s.now) }
     ensures { HoldsTo s.now c 16 result }
 {
-    let mut a = sets_of_rows::none();
+    let mut a = Set::none();
     for m in 0..16 {
         let b = door_rows::kinds::holds(m as u8, c as u8);
-        a = sets_of_rows::or(
-            a,
-            sets_of_rows::only_if(b, kept::get(s, sets_of_table::BY_CLASSES, m)),
-        );
+        a |= kept::get(s, sets_of_table::BY_CLASSES, m).only_if(b);
     }
     a
 }
@@ -59,13 +56,10 @@ fn meeting(t: &Run, n: usize, s: &[u64], c: usize) -> Set
     ensures { Rows n (meets_some (table_in t.now n) c) result }
 {
     let own = sets_of_table::ask::of_classes(t, n, s, c);
-    let mut a = sets_of_rows::and(own, sets_of_table::rows(s, sets_of_table::PLAIN));
+    let mut a = own & sets_of_table::rows(s, sets_of_table::PLAIN);
     for q in 0..4 {
         let b = sets_of_table::ask::holds_class(c, q);
-        a = sets_of_rows::or(
-            a,
-            sets_of_rows::only_if(b, kept::get(s, sets_of_table::HOLDING, q)),
-        );
+        a |= kept::get(s, sets_of_table::HOLDING, q).only_if(b);
     }
     a
 }
@@ -77,15 +71,15 @@ pub fn of_classes(t: &Run, n: usize, s: &[u64], ends: Set, c: usize) -> Concerne
 {
     let holds = holding(s, c);
     let meets = meeting(t, n, s, c);
-    let releases = sets_of_rows::and(holds, sets_of_table::rows(s, sets_of_table::RELEASES));
-    let acquires = sets_of_rows::and(holds, sets_of_table::rows(s, sets_of_table::ACQUIRES));
+    let releases = holds & sets_of_table::rows(s, sets_of_table::RELEASES);
+    let acquires = holds & sets_of_table::rows(s, sets_of_table::ACQUIRES);
     Concerned {
-        nodes: sets_of_rows::or(sets_of_rows::or(releases, acquires), ends),
+        nodes: releases | acquires | ends,
         releases: releases,
         acquires: acquires,
-        at: sets_of_rows::or(sets_of_table::ask::of_classes(t, n, s, c), holds),
-        available: sets_of_rows::and(meets, sets_of_table::rows(s, sets_of_table::AVAILABLE)),
-        visible: sets_of_rows::and(meets, sets_of_table::rows(s, sets_of_table::VISIBLE)),
+        at: sets_of_table::ask::of_classes(t, n, s, c) | holds,
+        available: meets & sets_of_table::rows(s, sets_of_table::AVAILABLE),
+        visible: meets & sets_of_table::rows(s, sets_of_table::VISIBLE),
     }
 }
 
@@ -105,7 +99,7 @@ pub fn is_widest(t: &Run, n: usize, s: &[u64], c: usize) -> bool
     let mut common = 15u8;
     for m in 0..16 {
         let held = door_rows::kinds::holds(m as u8, c as u8);
-        let some = sets_of_rows::some(kept::get(s, sets_of_table::BY_CLASSES, m));
+        let some = kept::get(s, sets_of_table::BY_CLASSES, m).has_any();
         common = shared(held & some, common, m as u8);
     }
     common == (c as u8)
@@ -118,11 +112,8 @@ pub fn is_synced(t: &Run, n: usize, s: &[u64], k: Concerned, w: &[u64]) -> bool
         × ((j : ℕ) → in_set k.releases j ≡ true → j < n) }
     ensures { result ≡ synced_by (table_in t.now n) n k }
 {
-    let mut left = k.releases;
-    while sets_of_rows::some(left) {
-        let a = sets_of_rows::first(left);
-        left = sets_of_rows::but_first(left);
-        if sets_of_rows::some(sets_of_rows::and(kept::get(w, work_area::SYNC, a), k.acquires)) {
+    for a in k.releases {
+        if (kept::get(w, work_area::SYNC, a) & k.acquires).has_any() {
             return true;
         }
     }

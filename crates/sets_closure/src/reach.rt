@@ -21,22 +21,10 @@ fn direct(t: &Run, n: usize, s: &[u64], k: Concerned, h: usize, w: &[u64]) -> Se
     ensures { (c : ℕ) (ends : Set) → Asking (table_in t.now n) n c ends k w.now → Rows n (own_of (table_in t.now n) c 0 h) result }
 {
     let after = sets_of_table::ask::after(t, n, s, h);
-    let sync = sets_of_rows::only_if(
-        sets_of_rows::has(k.releases, h),
-        sets_of_rows::and(kept::get(w, work_area::SYNC, h), k.acquires),
-    );
-    let releases = sets_of_rows::only_if(
-        sets_of_rows::has(k.at, h),
-        sets_of_rows::and(after, k.releases),
-    );
-    let taking = sets_of_rows::only_if(
-        sets_of_rows::has(k.acquires, h),
-        sets_of_rows::and(after, k.at),
-    );
-    sets_of_rows::or(
-        sets_of_rows::or(sync, releases),
-        sets_of_rows::or(taking, kept::get(w, sets_grids::DEPENDS, h)),
-    )
+    let sync = (kept::get(w, work_area::SYNC, h) & k.acquires).only_if(k.releases.has(h));
+    let releases = (after & k.releases).only_if(k.at.has(h));
+    let taking = (after & k.at).only_if(k.acquires.has(h));
+    sync | releases | (taking | kept::get(w, sets_grids::DEPENDS, h))
 }
 
 // What direct cases lead to from node h.
@@ -45,11 +33,11 @@ fn put_direct(t: &Run, n: usize, s: &[u64], k: Concerned, h: usize, w: &mut [u64
     ensures { PutDirect (table_in t.now n) n k h w.old w.new }
 {
     let to = direct(t, n, s, k, h, w);
-    let acquires = sets_of_rows::has(k.acquires, h);
+    let acquires = k.acquires.has(h);
     let onward = sets_of_table::ask::onward(t, n, s, h);
     let after = sets_of_table::ask::after(t, n, s, h);
-    let visible = sets_of_rows::only_if(acquires, sets_of_rows::and(onward, k.visible));
-    let available = sets_of_rows::only_if(acquires, sets_of_rows::and(after, k.available));
+    let visible = (onward & k.visible).only_if(acquires);
+    let available = (after & k.available).only_if(acquires);
     kept::put(w, sets_grids::REACH_AT, h, to);
     kept::put(w, sets_grids::REACH_VISIBLE, h, visible);
     kept::put(w, sets_grids::REACH_AVAILABLE, h, available);
@@ -73,10 +61,7 @@ fn put_all_direct(t: &Run, n: usize, s: &[u64], k: Concerned, w: &mut [u64])
     requires { ((j : ℕ) → in_set k.nodes j ≡ true → j < n) × Given (table_in t.now n) n s.now w.old }
     ensures { PutsAll (table_in t.now n) n k w.old w.new }
 {
-    let mut left = k.nodes;
-    while sets_of_rows::some(left) {
-        let h = sets_of_rows::first(left);
-        left = sets_of_rows::but_first(left);
+    for h in k.nodes {
         put_direct(t, n, s, k, h, w);
     }
 }
@@ -86,10 +71,7 @@ fn ahead(h: usize, nodes: Set, seen: Set, w: &[u64]) -> Set
     requires { (h < ROWS) × (WORK ≤ length w.now) }
     ensures { (y : ℕ) → in_set result y ≡ (held w.now 0 h y and in_set nodes y and not (in_set seen y)) }
 {
-    sets_of_rows::less(
-        sets_of_rows::and(kept::get(w, sets_grids::REACH_AT, h), nodes),
-        seen,
-    )
+    (kept::get(w, sets_grids::REACH_AT, h) & nodes) - seen
 }
 
 // What needs no look once node j is taken in: j, and what it reaches if it has all of that.
@@ -97,13 +79,7 @@ fn behind(j: usize, waiting: Set, w: &[u64]) -> Set
     requires { (j < ROWS) × (WORK ≤ length w.now) }
     ensures { (y : ℕ) → in_set result y ≡ (eqb y j or (not (in_set waiting j) and held w.now 0 j y)) }
 {
-    sets_of_rows::or(
-        sets_of_rows::bit(j),
-        sets_of_rows::only_if(
-            !sets_of_rows::has(waiting, j),
-            kept::get(w, sets_grids::REACH_AT, j),
-        ),
-    )
+    Set::bit(j) | kept::get(w, sets_grids::REACH_AT, j).only_if(!waiting.has(j))
 }
 
 // Node h takes in all that it reaches, from node to node; nodes that aren't `waiting` have all that they reach.
@@ -111,13 +87,10 @@ fn search(h: usize, nodes: Set, waiting: Set, w: &mut [u64])
     requires { (h < ROWS) × (WORK ≤ length w.old) }
     ensures { Searches h nodes waiting w.old w.new }
 {
-    let mut seen = sets_of_rows::none();
-    let mut left = ahead(h, nodes, seen, w);
-    while sets_of_rows::some(left) {
-        let j = sets_of_rows::first(left);
+    let mut seen = Set::none();
+    while let Some(j) = ahead(h, nodes, seen, w).first() {
         take_in(h, j, w);
-        seen = sets_of_rows::or(seen, behind(j, waiting, w));
-        left = ahead(h, nodes, seen, w);
+        seen |= behind(j, waiting, w);
     }
 }
 
@@ -138,11 +111,11 @@ fn close(n: usize, nodes: Set, down: bool, w: &mut [u64])
     let mut waiting = nodes;
     for i in 0..n {
         let h = turn(n, down, i);
-        if !sets_of_rows::has(waiting, h) {
+        if !waiting.has(h) {
             continue;
         }
         search(h, nodes, waiting, w);
-        waiting = sets_of_rows::drop(waiting, h);
+        waiting = waiting.without(h);
     }
 }
 

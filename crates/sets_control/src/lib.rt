@@ -26,13 +26,10 @@ fn instance(t: &Run, n: usize, s: &[u64], c: usize) -> Set
     ensures { Rows n (of_instance (table_in t.now n) c) result }
 {
     let name = fields::start(t, c);
-    let mut all = sets_of_rows::none();
-    let mut left = kept::get(s, sets_of_table::BY_KIND, kinds::CONTROL as usize);
-    while sets_of_rows::some(left) {
-        let d = sets_of_rows::first(left);
-        left = sets_of_rows::but_first(left);
+    let mut all = Set::none();
+    for d in kept::get(s, sets_of_table::BY_KIND, kinds::CONTROL as usize) {
         let same = fields::start(t, d) == name;
-        all = sets_of_rows::or(all, sets_of_rows::only_if(same, sets_of_rows::bit(d)));
+        all |= Set::bit(d).only_if(same);
     }
     all
 }
@@ -43,7 +40,7 @@ fn joining(t: &Run, n: usize, s: &[u64], c: usize) -> Set
     ensures { Rows n (joins (table_in t.now n) c) result }
 {
     let share = sets_of_table::ask::sharing(t, n, s, c, fields::class(t, c));
-    sets_of_rows::drop(sets_of_rows::and(instance(t, n, s, c), share), c)
+    (instance(t, n, s, c) & share).without(c)
 }
 
 // The barriers that one of the rows d is, or comes before.
@@ -51,14 +48,11 @@ fn arrivals(t: &Run, n: usize, s: &[u64], d: Set) -> Set
     requires { ((k : ℕ) → in_set d k ≡ true → k < n) × Opened (table_in t.now n) n s.now }
     ensures { Rows n (arrived (table_in t.now n) d) result }
 {
-    let mut all = sets_of_rows::none();
-    let mut left = d;
-    while sets_of_rows::some(left) {
-        let k = sets_of_rows::first(left);
-        left = sets_of_rows::but_first(left);
-        all = sets_of_rows::or(all, sets_of_table::ask::onward(t, n, s, k));
+    let mut all = Set::none();
+    for k in d {
+        all |= sets_of_table::ask::onward(t, n, s, k);
     }
-    sets_of_rows::and(all, sets_of_table::rows(s, sets_of_table::BARRIER))
+    all & sets_of_table::rows(s, sets_of_table::BARRIER)
 }
 
 // The barriers that arrive where the control barrier c is joined; none where c is no control barrier.
@@ -66,13 +60,10 @@ fn passes_to(t: &Run, n: usize, s: &[u64], c: usize) -> Set
     requires { (c < n) × Opened (table_in t.now n) n s.now }
     ensures { Rows n (passes_to (table_in t.now n) c) result }
 {
-    if sets_of_rows::has(
-        kept::get(s, sets_of_table::BY_KIND, kinds::CONTROL as usize),
-        c,
-    ) {
+    if kept::get(s, sets_of_table::BY_KIND, kinds::CONTROL as usize).has(c) {
         return arrivals(t, n, s, joining(t, n, s, c));
     }
-    sets_of_rows::none()
+    Set::none()
 }
 
 // Row a, where `passing` has by agent what the control barriers below it pass to: a control barrier joins them, and a barrier gets what
@@ -85,13 +76,8 @@ fn pass_row(t: &Run, n: usize, s: &[u64], a: usize, passing: &mut [u64], w: &mut
     let own = passes_to(t, n, s, a);
     kept::join(passing, 0, agent, own);
     let all = kept::get(passing, 0, agent);
-    let barrier = sets_of_rows::has(sets_of_table::rows(s, sets_of_table::BARRIER), a);
-    kept::put(
-        w,
-        sets_grids::PASSED,
-        a,
-        sets_of_rows::only_if(barrier, all),
-    );
+    let barrier = sets_of_table::rows(s, sets_of_table::BARRIER).has(a);
+    kept::put(w, sets_grids::PASSED, a, all.only_if(barrier));
 }
 
 // Up the page: a barrier passes to what the control barriers of its agent, from it on, pass to.
@@ -111,7 +97,7 @@ pub fn fill_passed(t: &Run, n: usize, s: &[u64], w: &mut [u64])
     requires { Given (table_in t.now n) n s.now w.old }
     ensures { MadeGrid PASSED PASSED_END PASSED n (passed_by (table_in t.now n)) w.old w.new }
 {
-    if sets_of_rows::some(kept::get(s, sets_of_table::BY_KIND, kinds::CONTROL as usize)) {
+    if kept::get(s, sets_of_table::BY_KIND, kinds::CONTROL as usize).has_any() {
         let mut passing = [0u64; 64];
         pass_up(t, n, s, &mut passing, w);
         return;

@@ -21,10 +21,7 @@ fn put_orders(n: usize, w: &mut [u64])
     ensures { Ordered n w.old w.new }
 {
     for x in 0..n {
-        let to = sets_of_rows::or(
-            kept::get(w, sets_grids::SOME, x),
-            kept::get(w, sets_grids::LATER, x),
-        );
+        let to = kept::get(w, sets_grids::SOME, x) | kept::get(w, sets_grids::LATER, x);
         kept::put(w, work_area::EDGE, x, to);
     }
 }
@@ -36,16 +33,13 @@ fn put_reads(n: usize, s: &[u64], source: usize, y: usize, w: &mut [u64])
     ensures { Reads n s.now source y w.old w.new }
 {
     if source < n {
-        let to = sets_of_rows::drop(kept::get(w, sets_grids::LATER, source), y);
+        let to = kept::get(w, sets_grids::LATER, source).without(y);
         kept::join(w, work_area::EDGE, y, to);
         kept::put_bit(w, work_area::EDGE, source, y);
         return;
     }
-    let over = sets_of_rows::and(
-        kept::get(w, work_area::OVERLAP, y),
-        sets_of_table::rows(s, sets_of_table::WRITES),
-    );
-    kept::join(w, work_area::EDGE, y, sets_of_rows::drop(over, y));
+    let over = kept::get(w, work_area::OVERLAP, y) & sets_of_table::rows(s, sets_of_table::WRITES);
+    kept::join(w, work_area::EDGE, y, over.without(y));
 }
 
 // EDGE, with the sources in `src`.
@@ -54,10 +48,7 @@ pub fn fill_edges(t: &Run, n: usize, src: &[u16], s: &[u64], w: &mut [u64])
     ensures { MadeGrid EDGE EDGE_END EDGE n (edge (table_in t.now n) (source_in src.now)) w.old w.new }
 {
     put_orders(n, w);
-    let mut left = sets_of_table::rows(s, sets_of_table::READS);
-    while sets_of_rows::some(left) {
-        let y = sets_of_rows::first(left);
-        left = sets_of_rows::but_first(left);
+    for y in sets_of_table::rows(s, sets_of_table::READS) {
         put_reads(n, s, src[y] as usize, y, w);
     }
 }

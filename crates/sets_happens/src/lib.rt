@@ -31,7 +31,7 @@ fn after_available(t: &Run, n: usize, s: &[u64], a: usize) -> Set
     requires { (a < n) × Opened (table_in t.now n) n s.now }
     ensures { Rows n (behind (table_in t.now n) a) result }
 {
-    if sets_of_rows::has(sets_of_table::rows(s, sets_of_table::PLAIN), a) {
+    if sets_of_table::rows(s, sets_of_table::PLAIN).has(a) {
         return sets_of_table::ask::after(t, n, s, a);
     }
     sets_of_table::ask::onward(t, n, s, a)
@@ -45,9 +45,9 @@ fn put_available(t: &Run, n: usize, s: &[u64], a: usize, w: &mut [u64])
     let after = sets_of_table::ask::after(t, n, s, a);
     let from = after_available(t, n, s, a);
     kept::put(w, sets_grids::AVAILABLE_AT, a, from);
-    let visible = sets_of_rows::and(from, sets_of_table::rows(s, sets_of_table::VISIBLE));
+    let visible = from & sets_of_table::rows(s, sets_of_table::VISIBLE);
     kept::put(w, sets_grids::AVAILABLE_VISIBLE, a, visible);
-    let available = sets_of_rows::and(after, sets_of_table::rows(s, sets_of_table::AVAILABLE));
+    let available = after & sets_of_table::rows(s, sets_of_table::AVAILABLE);
     kept::put(w, sets_grids::AVAILABLE_AVAILABLE, a, available);
 }
 
@@ -67,10 +67,7 @@ fn put_availables(t: &Run, n: usize, s: &[u64], w: &mut [u64])
     requires { Given (table_in t.now n) n s.now w.old × NoneAvailable w.old }
     ensures { MadeAvailables (table_in t.now n) n w.old w.new }
 {
-    let mut left = sets_of_table::rows(s, sets_of_table::AVAILABLE);
-    while sets_of_rows::some(left) {
-        let a = sets_of_rows::first(left);
-        left = sets_of_rows::but_first(left);
+    for a in sets_of_table::rows(s, sets_of_table::AVAILABLE) {
         put_available(t, n, s, a, w);
     }
 }
@@ -82,11 +79,8 @@ fn put_visibles(t: &Run, n: usize, s: &[u64], w: &mut [u64])
         MadeGrid VISIBLE_VISIBLE HAPPENS_END VISIBLE_VISIBLE n (λ v u. program_order t (visibility_moment t v) (visibility_moment t u)) w.old w.new }
 {
     let visible = sets_of_table::rows(s, sets_of_table::VISIBLE);
-    let mut left = visible;
-    while sets_of_rows::some(left) {
-        let v = sets_of_rows::first(left);
-        left = sets_of_rows::but_first(left);
-        let after = sets_of_rows::and(sets_of_table::ask::after(t, n, s, v), visible);
+    for v in visible {
+        let after = sets_of_table::ask::after(t, n, s, v) & visible;
         kept::put(w, sets_grids::VISIBLE_VISIBLE, v, after);
     }
 }
@@ -109,11 +103,10 @@ fn by_release(r: Set, w: &[u64]) -> Set
     requires { WORK ≤ length w.now }
     ensures { (j : ℕ) → in_set result j ≡ by_first REACH_AT r w.now j }
 {
-    if !sets_of_rows::some(r) {
-        return sets_of_rows::none();
-    }
-    let j = sets_of_rows::first(r);
-    sets_of_rows::or(sets_of_rows::bit(j), kept::get(w, sets_grids::REACH_AT, j))
+    let Some(j) = r.first() else {
+        return Set::none();
+    };
+    Set::bit(j) | kept::get(w, sets_grids::REACH_AT, j)
 }
 
 // What row i leads to: a node's own; of any other row that is concerned, by way of the first release row after it.
@@ -122,13 +115,10 @@ fn from_row(t: &Run, n: usize, s: &[u64], k: Concerned, i: usize, w: &[u64]) -> 
     ensures { let t = table_in t.entry.now n in
         ((c : ℕ) (ends : Set) → Reached t n c ends k s.now w.now → Rows n (from_at t ends c i) result) }
 {
-    if sets_of_rows::has(k.nodes, i) {
+    if k.nodes.has(i) {
         return kept::get(w, sets_grids::REACH_AT, i);
     }
-    by_release(
-        sets_of_rows::and(sets_of_table::ask::after(t, n, s, i), k.releases),
-        w,
-    )
+    by_release(sets_of_table::ask::after(t, n, s, i) & k.releases, w)
 }
 
 // From rows.
@@ -136,10 +126,7 @@ pub fn add_at(t: &Run, n: usize, s: &[u64], c: usize, ends: Set, k: Concerned, w
     requires { Reached (table_in t.now n) n c ends k s.now w.old }
     ensures { AddsAt (table_in t.now n) n c w.old w.new }
 {
-    let mut left = sets_of_rows::or(k.at, k.nodes);
-    while sets_of_rows::some(left) {
-        let i = sets_of_rows::first(left);
-        left = sets_of_rows::but_first(left);
+    for i in k.at | k.nodes {
         let to = from_row(t, n, s, k, i, w);
         kept::join(w, sets_grids::HAPPENS, i, to);
     }
@@ -150,10 +137,9 @@ fn join_available(a: usize, r: Set, w: &mut [u64])
     requires { (a < ROWS) × (WORK ≤ length w.old) }
     ensures { JoinsAvailable a r w.old w.new }
 {
-    if !sets_of_rows::some(r) {
+    let Some(j) = r.first() else {
         return;
-    }
-    let j = sets_of_rows::first(r);
+    };
     let to = by_release(r, w);
     let visible = kept::get(w, sets_grids::REACH_VISIBLE, j);
     let available = kept::get(w, sets_grids::REACH_AVAILABLE, j);
@@ -167,11 +153,8 @@ pub fn add_available(t: &Run, n: usize, s: &[u64], c: usize, ends: Set, k: Conce
     requires { Reached (table_in t.now n) n c ends k s.now w.old }
     ensures { AddsAvailable (table_in t.now n) n c w.old w.new }
 {
-    let mut left = k.available;
-    while sets_of_rows::some(left) {
-        let a = sets_of_rows::first(left);
-        left = sets_of_rows::but_first(left);
-        let r = sets_of_rows::and(after_available(t, n, s, a), k.releases);
+    for a in k.available {
+        let r = after_available(t, n, s, a) & k.releases;
         join_available(a, r, w);
     }
 }
@@ -181,10 +164,10 @@ fn join_visible(v: usize, r: Set, w: &mut [u64])
     requires { (v < ROWS) × (WORK ≤ length w.old) }
     ensures { JoinsVisible v r w.old w.new }
 {
-    if !sets_of_rows::some(r) {
+    let Some(j) = r.first() else {
         return;
-    }
-    let visible = kept::get(w, sets_grids::REACH_VISIBLE, sets_of_rows::first(r));
+    };
+    let visible = kept::get(w, sets_grids::REACH_VISIBLE, j);
     kept::join(w, sets_grids::VISIBLE_VISIBLE, v, visible);
 }
 
@@ -193,11 +176,8 @@ pub fn add_visible(t: &Run, n: usize, s: &[u64], c: usize, ends: Set, k: Concern
     requires { Reached (table_in t.now n) n c ends k s.now w.old }
     ensures { AddsVisible (table_in t.now n) n c w.old w.new }
 {
-    let mut left = k.visible;
-    while sets_of_rows::some(left) {
-        let v = sets_of_rows::first(left);
-        left = sets_of_rows::but_first(left);
-        let r = sets_of_rows::and(sets_of_table::ask::after(t, n, s, v), k.releases);
+    for v in k.visible {
+        let r = sets_of_table::ask::after(t, n, s, v) & k.releases;
         join_visible(v, r, w);
     }
 }

@@ -44,9 +44,9 @@ fn in_domain(s: &[u64], host: bool, x: Set) -> Set
 {
     let hosts = sets_of_table::rows(s, sets_of_table::ON_HOST);
     if host {
-        return sets_of_rows::and(x, hosts);
+        return x & hosts;
     }
-    sets_of_rows::less(x, hosts)
+    x - hosts
 }
 
 // The rows that meet what the operation m leaves in a domain: a reader by way of a visibility operation of it, any other at once.
@@ -62,11 +62,8 @@ fn met_in(s: &[u64], host: bool, m: usize, w: &[u64]) -> Set
         kinds::VISIBLE_HOST as usize,
         kinds::VISIBLE_DEVICE as usize,
     );
-    let seen = sets_of_rows::walk::union(w, sets_grids::HAPPENS, sets_of_rows::and(to, sight));
-    let met = sets_of_rows::or(
-        sets_of_rows::less(to, reads),
-        sets_of_rows::and(seen, reads),
-    );
+    let seen = kept::union(w, sets_grids::HAPPENS, to & sight);
+    let met = (to - reads) | (seen & reads);
     in_domain(s, host, met)
 }
 
@@ -81,12 +78,9 @@ fn met_beyond(s: &[u64], host: bool, a: usize, w: &[u64]) -> Set
         kinds::HOST_TO_DEVICE as usize,
         kinds::DEVICE_TO_HOST as usize,
     );
-    let mut met = sets_of_rows::none();
-    let mut left = sets_of_rows::and(kept::get(w, sets_grids::HAPPENS, a), carrying);
-    while sets_of_rows::some(left) {
-        let d = sets_of_rows::first(left);
-        left = sets_of_rows::but_first(left);
-        met = sets_of_rows::or(met, met_in(s, !host, d, w));
+    let mut met = Set::none();
+    for d in kept::get(w, sets_grids::HAPPENS, a) & carrying {
+        met |= met_in(s, !host, d, w);
     }
     met
 }
@@ -98,12 +92,9 @@ fn fill_met(s: &[u64], w: &mut [u64])
 {
     let hosts = kept::get(s, sets_of_table::BY_KIND, kinds::AVAILABLE_HOST as usize);
     let devices = kept::get(s, sets_of_table::BY_KIND, kinds::AVAILABLE_DEVICE as usize);
-    let mut left = sets_of_rows::or(hosts, devices);
-    while sets_of_rows::some(left) {
-        let a = sets_of_rows::first(left);
-        left = sets_of_rows::but_first(left);
-        let host = sets_of_rows::has(hosts, a);
-        let met = sets_of_rows::or(met_in(s, host, a, w), met_beyond(s, host, a, w));
+    for a in hosts | devices {
+        let host = hosts.has(a);
+        let met = met_in(s, host, a, w) | met_beyond(s, host, a, w);
         kept::put(w, sets_grids::MET, a, met);
     }
 }
@@ -113,15 +104,15 @@ fn by_domains(s: &[u64], x: usize, w: &[u64]) -> Set
     requires { (x < ROWS) × (WORDS ≤ length s.now) × (WORK ≤ length w.now) }
     ensures { (t : Table) (n : ℕ) → Hosting t n s.now w.now → x < n → Rows n (reached t x) result }
 {
-    let host = sets_of_rows::has(sets_of_table::rows(s, sets_of_table::ON_HOST), x);
+    let host = sets_of_table::rows(s, sets_of_table::ON_HOST).has(x);
     let makers = of_kind(
         s,
         host,
         kinds::AVAILABLE_HOST as usize,
         kinds::AVAILABLE_DEVICE as usize,
     );
-    let by = sets_of_rows::and(kept::get(w, sets_grids::HAPPENS, x), makers);
-    sets_of_rows::walk::union(w, sets_grids::MET, by)
+    let by = kept::get(w, sets_grids::HAPPENS, x) & makers;
+    kept::union(w, sets_grids::MET, by)
 }
 
 // Of the access x: L4 if it doesn't write, L5 if it writes.
@@ -129,7 +120,7 @@ fn hosted_row(s: &[u64], x: usize, w: &[u64]) -> Set
     requires { (x < ROWS) × (WORDS ≤ length s.now) × (WORK ≤ length w.now) }
     ensures { (t : Table) (n : ℕ) → Hosting t n s.now w.now → x < n → access (t.row x) ≡ true → Rows n (hosted_by t x) result }
 {
-    if sets_of_rows::has(sets_of_table::rows(s, sets_of_table::WRITES), x) {
+    if sets_of_table::rows(s, sets_of_table::WRITES).has(x) {
         return by_domains(s, x, w);
     }
     kept::get(w, sets_grids::SYSTEM, x)
@@ -143,10 +134,7 @@ pub fn fill_hosted(t: &Run, n: usize, s: &[u64], w: &mut [u64])
 {
     fill_met(s, w);
     bits::clear(w, sets_grids::HOSTED, sets_grids::HOSTED_END);
-    let mut left = sets_of_table::rows(s, sets_of_table::ACCESS);
-    while sets_of_rows::some(left) {
-        let x = sets_of_rows::first(left);
-        left = sets_of_rows::but_first(left);
+    for x in sets_of_table::rows(s, sets_of_table::ACCESS) {
         let to = hosted_row(s, x, w);
         kept::put(w, sets_grids::HOSTED, x, to);
     }

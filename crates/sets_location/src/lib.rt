@@ -38,15 +38,11 @@ fn ordered_after(t: &Run, n: usize, s: &[u64], x: usize, w: &[u64]) -> Set
 {
     let happens = kept::get(w, sets_grids::HAPPENS, x);
     let public = sets_of_table::rows(s, sets_of_table::PUBLIC);
-    let own = sets_of_rows::and(happens, sets_of_table::ask::of_agent(t, n, s, x));
-    let l1 = sets_of_rows::and(own, kept::get(s, sets_of_table::REFERENCE, x));
-    let pure = sets_of_rows::has(public, x)
-        & !sets_of_rows::has(sets_of_table::rows(s, sets_of_table::WRITES), x);
-    let l2 = sets_of_rows::only_if(pure, sets_of_rows::and(happens, public));
-    sets_of_rows::or(
-        sets_of_rows::or(l1, l2),
-        kept::get(w, sets_grids::HOSTED, x),
-    )
+    let own = happens & sets_of_table::ask::of_agent(t, n, s, x);
+    let l1 = own & kept::get(s, sets_of_table::REFERENCE, x);
+    let pure = public.has(x) & !sets_of_table::rows(s, sets_of_table::WRITES).has(x);
+    let l2 = (happens & public).only_if(pure);
+    l1 | l2 | kept::get(w, sets_grids::HOSTED, x)
 }
 
 // x is ordered before each of `to` at all shared bytes.
@@ -55,10 +51,7 @@ fn put_whole(t: &Run, n: usize, x: usize, to: Set, w: &mut [u64])
     ensures { AddsRow n x (whole_bytes (table_in t.now n) x to) w.old w.new }
 {
     kept::put(w, sets_grids::SOME, x, to);
-    let mut left = to;
-    while sets_of_rows::some(left) {
-        let y = sets_of_rows::first(left);
-        left = sets_of_rows::but_first(left);
+    for y in to {
         let m = sets_bytes::shared(t, n, x, y);
         sets_bytes::add(w, x, y, m);
     }
@@ -69,10 +62,7 @@ fn put_parts(t: &Run, n: usize, s: &[u64], x: usize, to: Set, g: part::Available
     requires { ToLocate (table_in t.now n) n s.now w.old × Grasps (table_in t.now n) n x g × Targets (table_in t.now n) n x to }
     ensures { AddsRow n x (parts_of (table_in t.now n) x to) w.old w.new }
 {
-    let mut left = to;
-    while sets_of_rows::some(left) {
-        let y = sets_of_rows::first(left);
-        left = sets_of_rows::but_first(left);
+    for y in to {
         let met = sets_bytes::shared(t, n, x, y) & part::bytes_met(t, n, s, x, y, g, w);
         if 0 < met {
             sets_bytes::add(w, x, y, met);
@@ -88,18 +78,10 @@ fn plain_available(t: &Run, n: usize, s: &[u64], x: usize, w: &[u64]) -> Set
     requires { RowThat access (table_in t.now n).row n x × ToLocate (table_in t.now n) n s.now w.now }
     ensures { Rows n (first_plain (table_in t.now n) x) result }
 {
-    let plain = sets_of_rows::and(
-        sets_of_table::rows(s, sets_of_table::AVAILABLE),
-        sets_of_table::rows(s, sets_of_table::PLAIN),
-    );
-    let here = sets_of_rows::and(
-        kept::get(s, sets_of_table::REFERENCE, x),
-        kept::get(w, work_area::OVERLAP, x),
-    );
-    sets_of_rows::and(
-        sets_of_rows::and(plain, here),
-        sets_of_table::ask::onward(t, n, s, x),
-    )
+    let plain = sets_of_table::rows(s, sets_of_table::AVAILABLE)
+        & sets_of_table::rows(s, sets_of_table::PLAIN);
+    let here = kept::get(s, sets_of_table::REFERENCE, x) & kept::get(w, work_area::OVERLAP, x);
+    plain & here & sets_of_table::ask::onward(t, n, s, x)
 }
 
 // What is made available of x: by atomics and barriers, in `made`, and by plain rows.
@@ -117,16 +99,13 @@ fn made_available(
     let k = fields::agent(t, x) * 8 + fields::class(t, x);
     let mut to = kept::get(made, 0, k);
     let mut by = kept::get(made, 0, k + 4);
-    let mut parts = sets_of_rows::none();
-    let mut left = plain_available(t, n, s, x, w);
-    while sets_of_rows::some(left) {
-        let a = sets_of_rows::first(left);
-        left = sets_of_rows::but_first(left);
+    let mut parts = Set::none();
+    for a in plain_available(t, n, s, x, w) {
         if part::covers(t, a, x) {
-            to = sets_of_rows::or(to, kept::get(w, sets_grids::AVAILABLE_TO, a));
-            by = sets_of_rows::or(by, kept::get(w, sets_grids::VISIBLE_BY, a));
+            to |= kept::get(w, sets_grids::AVAILABLE_TO, a);
+            by |= kept::get(w, sets_grids::VISIBLE_BY, a);
         } else {
-            parts = sets_of_rows::or(parts, sets_of_rows::bit(a));
+            parts |= Set::bit(a);
         }
     }
     part::Available {
@@ -142,12 +121,9 @@ fn met_whole(t: &Run, n: usize, s: &[u64], x: usize, g: part::Available) -> Set
     ensures { let t = table_in t.entry.now n in Rows n (full_set t (meets t) (shown_to t) x) result }
 {
     let reads = sets_of_table::rows(s, sets_of_table::READS);
-    let wide = sets_of_rows::and(g.by, part::wide_visible(t, s, x));
+    let wide = g.by & part::wide_visible(t, s, x);
     let seen = part::seen(t, n, s, wide);
-    sets_of_rows::or(
-        sets_of_rows::less(g.to, reads),
-        sets_of_rows::and(seen, reads),
-    )
+    (g.to - reads) | (seen & reads)
 }
 
 // L3 of the public write x, beside what it is ordered before at all shared bytes anyway; the rows `over` share bytes with it.
@@ -164,17 +140,15 @@ fn place_write(
     requires { ToLocate (table_in t.now n) n s.now w.old × PublicWrite (table_in t.now n) n x before over × Next (table_in t.now n) n x made.now w.old }
     ensures { AddsRow n x (before_nth (table_in t.now n) x) w.old w.new }
 {
-    let public = sets_of_rows::and(
-        kept::get(s, sets_of_table::REFERENCE, x),
-        sets_of_table::rows(s, sets_of_table::PUBLIC),
-    );
-    let target = sets_of_rows::and(public, over);
+    let public = kept::get(s, sets_of_table::REFERENCE, x)
+        & sets_of_table::rows(s, sets_of_table::PUBLIC);
+    let target = public & over;
     let g = made_available(t, n, s, x, made, w);
-    let met = sets_of_rows::and(met_whole(t, n, s, x, g), target);
-    let whole = sets_of_rows::and(sets_of_rows::or(before, met), over);
+    let met = met_whole(t, n, s, x, g) & target;
+    let whole = (before | met) & over;
     put_whole(t, n, x, whole, w);
-    let maybe = sets_of_rows::and(part::maybe_met(t, n, s, x, g, w), target);
-    put_parts(t, n, s, x, sets_of_rows::less(maybe, whole), g, w);
+    let maybe = part::maybe_met(t, n, s, x, g, w) & target;
+    put_parts(t, n, s, x, maybe - whole, g, w);
 }
 
 // ---- up the page
@@ -185,16 +159,14 @@ fn place_row(t: &Run, n: usize, s: &[u64], x: usize, made: &[u64], w: &mut [u64]
     ensures { AddsRow n x (before_nth (table_in t.now n) x) w.old w.new }
 {
     let before = ordered_after(t, n, s, x, w);
-    let over = sets_of_rows::drop(kept::get(w, work_area::OVERLAP, x), x);
-    let public = sets_of_rows::and(
-        sets_of_table::rows(s, sets_of_table::PUBLIC),
-        sets_of_table::rows(s, sets_of_table::WRITES),
-    );
-    if sets_of_rows::has(public, x) {
+    let over = kept::get(w, work_area::OVERLAP, x).without(x);
+    let public = sets_of_table::rows(s, sets_of_table::PUBLIC)
+        & sets_of_table::rows(s, sets_of_table::WRITES);
+    if public.has(x) {
         place_write(t, n, s, x, before, over, made, w);
         return;
     }
-    put_whole(t, n, x, sets_of_rows::and(before, over), w);
+    put_whole(t, n, x, before & over, w);
 }
 
 // What the atomic or barrier x makes available is made for the rows of its agent before it, of each of its classes.
@@ -223,17 +195,13 @@ pub fn fill_location(t: &Run, n: usize, s: &[u64], w: &mut [u64])
     bits::clear(w, work_area::LOCATION, work_area::LOCATION_END);
     let mut made = [0u64; MADE];
     let accesses = sets_of_table::rows(s, sets_of_table::ACCESS);
-    let wide = sets_of_rows::less(
-        sets_of_table::rows(s, sets_of_table::AVAILABLE),
-        sets_of_table::rows(s, sets_of_table::PLAIN),
-    );
-    let mut x = n;
-    while 0 < x {
-        x -= 1;
-        if sets_of_rows::has(accesses, x) {
+    let wide = sets_of_table::rows(s, sets_of_table::AVAILABLE)
+        - sets_of_table::rows(s, sets_of_table::PLAIN);
+    for x in (0..n).rev() {
+        if accesses.has(x) {
             place_row(t, n, s, x, &made, w);
         }
-        if sets_of_rows::has(wide, x) {
+        if wide.has(x) {
             carry_back(t, n, x, &mut made, w);
         }
     }

@@ -48,11 +48,10 @@ pub fn seen(t: &Run, n: usize, s: &[u64], operations: Set) -> Set
     ensures { Rows n (seen (table_in t.now n) false (in_set operations)) result }
 {
     let mut left = operations;
-    let mut all = sets_of_rows::none();
-    while sets_of_rows::some(left) {
-        let v = sets_of_rows::first(left);
-        all = sets_of_rows::or(all, sets_of_table::ask::after(t, n, s, v));
-        left = sets_of_rows::less(left, sets_of_table::ask::of_agent(t, n, s, v));
+    let mut all = Set::none();
+    while let Some(v) = left.first() {
+        all |= sets_of_table::ask::after(t, n, s, v);
+        left = left - sets_of_table::ask::of_agent(t, n, s, v);
     }
     all
 }
@@ -63,11 +62,10 @@ fn seen_plain(t: &Run, n: usize, s: &[u64], operations: Set) -> Set
     ensures { Rows n (seen (table_in t.now n) true (in_set operations)) result }
 {
     let mut left = operations;
-    let mut all = sets_of_rows::none();
-    while sets_of_rows::some(left) {
-        let v = sets_of_rows::first(left);
-        all = sets_of_rows::or(all, sets_of_table::ask::onward(t, n, s, v));
-        left = sets_of_rows::less(left, sets_of_table::ask::of_agent(t, n, s, v));
+    let mut all = Set::none();
+    while let Some(v) = left.first() {
+        all |= sets_of_table::ask::onward(t, n, s, v);
+        left = left - sets_of_table::ask::of_agent(t, n, s, v);
     }
     all
 }
@@ -77,11 +75,9 @@ fn plain_visible(s: &[u64], x: usize) -> Set
     requires { (x < ROWS) × (WORDS ≤ length s.now) }
     ensures { (j : ℕ) → in_set result j ≡ plain_shown s.now x j }
 {
-    let plain = sets_of_rows::and(
-        sets_of_table::rows(s, sets_of_table::VISIBLE),
-        sets_of_table::rows(s, sets_of_table::PLAIN),
-    );
-    sets_of_rows::and(plain, kept::get(s, sets_of_table::REFERENCE, x))
+    let plain = sets_of_table::rows(s, sets_of_table::VISIBLE)
+        & sets_of_table::rows(s, sets_of_table::PLAIN);
+    plain & kept::get(s, sets_of_table::REFERENCE, x)
 }
 
 pub fn wide_visible(t: &Run, s: &[u64], x: usize) -> Set
@@ -89,10 +85,8 @@ pub fn wide_visible(t: &Run, s: &[u64], x: usize) -> Set
     ensures { (j : ℕ) → in_set result j ≡ wide_shown s.now (row_of (rows_in t.now) x).class j }
 {
     let class = kept::get(s, sets_of_table::HOLDING, fields::class(t, x));
-    sets_of_rows::less(
-        sets_of_rows::and(sets_of_table::rows(s, sets_of_table::VISIBLE), class),
-        sets_of_table::rows(s, sets_of_table::PLAIN),
-    )
+    (sets_of_table::rows(s, sets_of_table::VISIBLE) & class)
+        - sets_of_table::rows(s, sets_of_table::PLAIN)
 }
 
 // The rows that may meet some byte of x: what is made available in part, or is visible by way of plain rows.
@@ -101,15 +95,12 @@ pub fn maybe_met(t: &Run, n: usize, s: &[u64], x: usize, g: Available, w: &[u64]
     ensures { Maybes (table_in t.now n) n x result }
 {
     let reads = sets_of_table::rows(s, sets_of_table::READS);
-    let at = sets_of_rows::walk::union(w, sets_grids::AVAILABLE_TO, g.parts);
-    let visible = sets_of_rows::walk::union(w, sets_grids::VISIBLE_BY, g.parts);
-    let wide = seen(t, n, s, sets_of_rows::and(visible, wide_visible(t, s, x)));
-    let by = sets_of_rows::and(sets_of_rows::or(visible, g.by), plain_visible(s, x));
+    let at = kept::union(w, sets_grids::AVAILABLE_TO, g.parts);
+    let visible = kept::union(w, sets_grids::VISIBLE_BY, g.parts);
+    let wide = seen(t, n, s, visible & wide_visible(t, s, x));
+    let by = (visible | g.by) & plain_visible(s, x);
     let plain = seen_plain(t, n, s, by);
-    sets_of_rows::or(
-        sets_of_rows::less(at, reads),
-        sets_of_rows::and(sets_of_rows::or(wide, plain), reads),
-    )
+    (at - reads) | ((wide | plain) & reads)
 }
 
 // The bytes of x that one of the rows has.
@@ -117,11 +108,9 @@ fn bytes_of(t: &Run, n: usize, x: usize, rows: Set) -> u64
     requires { (x < n) × Among n rows × Fit (table_in t.now n) }
     ensures { Mask (λ k. any_below ROWS (byte_of (table_in t.now n) x rows k)) result }
 {
-    let mut left = rows;
     let mut m = 0u64;
-    while sets_of_rows::some(left) {
-        m |= sets_bytes::shared(t, n, x, sets_of_rows::first(left));
-        left = sets_of_rows::but_first(left);
+    for y in rows {
+        m |= sets_bytes::shared(t, n, x, y);
     }
     m
 }
@@ -131,12 +120,9 @@ fn bytes_at_once(t: &Run, n: usize, x: usize, y: usize, g: Available, w: &[u64])
     requires { TwoOf n x y × Fitting (table_in t.now n) n w.now × Among n g.parts }
     ensures { Mask (λ k. any_below ROWS (byte_to (table_in t.now n) w.now x y g.parts k)) result }
 {
-    let mut left = g.parts;
     let mut m = 0u64;
-    while sets_of_rows::some(left) {
-        let a = sets_of_rows::first(left);
-        left = sets_of_rows::but_first(left);
-        if sets_of_rows::has(kept::get(w, sets_grids::AVAILABLE_TO, a), y) {
+    for a in g.parts {
+        if kept::get(w, sets_grids::AVAILABLE_TO, a).has(y) {
             m |= sets_bytes::shared(t, n, x, a);
         }
     }
@@ -148,23 +134,17 @@ fn bytes_seen(t: &Run, n: usize, s: &[u64], x: usize, y: usize, g: Available, w:
     requires { Reader (table_in t.now n) n x y × ToLocate (table_in t.now n) n s.now w.now × Grasps (table_in t.now n) n x g }
     ensures { MetBytes (table_in t.now n) x y result }
 {
-    let upto = sets_of_rows::less(
-        sets_of_table::ask::of_agent(t, n, s, y),
-        sets_of_rows::above(y),
-    );
-    let wide = sets_of_rows::drop(sets_of_rows::and(wide_visible(t, s, x), upto), y);
-    let plain = sets_of_rows::and(plain_visible(s, x), upto);
-    let mut m = bytes_of(t, n, x, sets_of_rows::and(g.by, plain));
-    let mut left = g.parts;
-    while sets_of_rows::some(left) {
-        let a = sets_of_rows::first(left);
-        left = sets_of_rows::but_first(left);
+    let upto = sets_of_table::ask::of_agent(t, n, s, y) - Set::above(y);
+    let wide = (wide_visible(t, s, x) & upto).without(y);
+    let plain = plain_visible(s, x) & upto;
+    let mut m = bytes_of(t, n, x, g.by & plain);
+    for a in g.parts {
         let own = sets_bytes::shared(t, n, x, a);
         let visible = kept::get(w, sets_grids::VISIBLE_BY, a);
-        if sets_of_rows::some(sets_of_rows::and(visible, wide)) {
+        if (visible & wide).has_any() {
             m |= own;
         } else {
-            m |= own & bytes_of(t, n, x, sets_of_rows::and(visible, plain));
+            m |= own & bytes_of(t, n, x, visible & plain);
         }
     }
     m
@@ -175,7 +155,7 @@ pub fn bytes_met(t: &Run, n: usize, s: &[u64], x: usize, y: usize, g: Available,
     requires { Pair (table_in t.now n) n x y × ToLocate (table_in t.now n) n s.now w.now × Grasps (table_in t.now n) n x g }
     ensures { MetBytes (table_in t.now n) x y result }
 {
-    if sets_of_rows::has(sets_of_table::rows(s, sets_of_table::READS), y) {
+    if sets_of_table::rows(s, sets_of_table::READS).has(y) {
         return bytes_seen(t, n, s, x, y, g, w);
     }
     bytes_at_once(t, n, x, y, g, w)

@@ -32,11 +32,7 @@ fn add_if(b: bool, x: Set, i: usize) -> Set
     requires { i < ROWS }
     ensures { (j : ℕ) → in_set result j ≡ (in_set x j or (b and eqb j i)) }
 {
-    if b {
-        sets_of_rows::or(x, sets_of_rows::bit(i))
-    } else {
-        x
-    }
+    if b { x | Set::bit(i) } else { x }
 }
 
 // The members of x whose rank is later than row i's.
@@ -44,11 +40,8 @@ fn later_than(t: &Run, n: usize, x: Set, i: usize) -> Set
     requires { i < ROWS }
     ensures { (j : ℕ) → in_set result j ≡ (in_set x j and later_rank (table_in t.now n) i j) }
 {
-    let mut r = sets_of_rows::none();
-    let mut left = x;
-    while sets_of_rows::some(left) {
-        let j = sets_of_rows::first(left);
-        left = sets_of_rows::but_first(left);
+    let mut r = Set::none();
+    for j in x {
         let b = is_after(t, n, i, j);
         r = add_if(b, r, j);
     }
@@ -61,10 +54,8 @@ fn later_row(t: &Run, n: usize, s: &[u64], w: &[u64], i: usize) -> Set
     requires { RowThat ranked (row_of (rows_in t.now)) n i × Given (table_in t.now n) n s.now w.now × Grid MUTUAL n (mutually (table_in t.now n)) w.now }
     ensures { Rows n (follows (table_in t.now n) i) result }
 {
-    let writers = sets_of_rows::and(
-        kept::get(w, work_area::MUTUAL, i),
-        sets_of_table::rows(s, sets_of_table::RANKED),
-    );
+    let writers = kept::get(w, work_area::MUTUAL, i)
+        & sets_of_table::rows(s, sets_of_table::RANKED);
     later_than(t, n, writers, i)
 }
 
@@ -74,10 +65,7 @@ pub fn fill_later(t: &Run, n: usize, s: &[u64], w: &mut [u64])
     ensures { MadeGrid LATER LATER_END LATER n (follows (table_in t.now n)) w.old w.new }
 {
     bits::clear(w, sets_grids::LATER, sets_grids::LATER_END);
-    let mut left = sets_of_table::rows(s, sets_of_table::RANKED);
-    while sets_of_rows::some(left) {
-        let i = sets_of_rows::first(left);
-        left = sets_of_rows::but_first(left);
+    for i in sets_of_table::rows(s, sets_of_table::RANKED) {
         let x = later_row(t, n, s, w, i);
         kept::put(w, sets_grids::LATER, i, x);
     }

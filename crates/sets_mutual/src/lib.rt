@@ -23,14 +23,9 @@ fn mutual_row(t: &Run, n: usize, s: &[u64], i: usize) -> Set
     requires { (i < n) × (atomic (row_of (rows_in t.now) i) ≡ true) × Opened (table_in t.now n) n s.now }
     ensures { Rows n (mutually (table_in t.now n) i) result }
 {
-    let here = sets_of_rows::and(
-        kept::get(s, sets_of_table::PLACE, i),
-        sets_of_table::rows(s, sets_of_table::ATOMIC),
-    );
-    sets_of_rows::drop(
-        sets_of_rows::and(here, sets_of_table::ask::together(t, n, s, i)),
-        i,
-    )
+    let here = kept::get(s, sets_of_table::PLACE, i)
+        & sets_of_table::rows(s, sets_of_table::ATOMIC);
+    (here & sets_of_table::ask::together(t, n, s, i)).without(i)
 }
 
 // MUTUAL.
@@ -39,10 +34,7 @@ pub fn fill_mutual(t: &Run, n: usize, s: &[u64], w: &mut [u64])
     ensures { MadeGrid MUTUAL MUTUAL_END MUTUAL n (mutually (table_in t.now n)) w.old w.new }
 {
     bits::clear(w, work_area::MUTUAL, work_area::MUTUAL_END);
-    let mut left = sets_of_table::rows(s, sets_of_table::ATOMIC);
-    while sets_of_rows::some(left) {
-        let i = sets_of_rows::first(left);
-        left = sets_of_rows::but_first(left);
+    for i in sets_of_table::rows(s, sets_of_table::ATOMIC) {
         let x = mutual_row(t, n, s, i);
         kept::put(w, work_area::MUTUAL, i, x);
     }

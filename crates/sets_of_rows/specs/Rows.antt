@@ -14,6 +14,10 @@ pub record Rows (n : ℕ) (p : ℕ → Bool) (x : Set) : Type 0 where
 
 -- ---- laws: one set
 
+-- what a set has, a walk over it begins with
+pub started : {f : ℕ → Bool} {x y : Set} → y ≡ x → ((j : ℕ) → in_set x j ≡ f j) → (j : ℕ) → in_set y j ≡ f j
+started e h j = ap (λ (z : Set). in_set z j) e ∙ h j
+
 pub rows_at : {n : ℕ} {p : ℕ → Bool} {x y : Set} → x ≡ y → Rows n p y → Rows n p x
 rows_at e h = record { is = λ j. ap (λ (z : Set). in_set z j) e ∙ h.is j }
 

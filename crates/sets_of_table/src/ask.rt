@@ -25,7 +25,7 @@ pub fn after(t: &Run, n: usize, s: &[u64], i: usize) -> Set
     requires { (i < n) × Opened (table_in t.now n) n s.now }
     ensures { Rows n (later_row (table_in t.now n) i) result }
 {
-    sets_of_rows::and(of_agent(t, n, s, i), sets_of_rows::above(i))
+    of_agent(t, n, s, i) & Set::above(i)
 }
 
 // The same and row i.
@@ -33,7 +33,7 @@ pub fn onward(t: &Run, n: usize, s: &[u64], i: usize) -> Set
     requires { (i < n) × Opened (table_in t.now n) n s.now }
     ensures { Rows n (from_row (table_in t.now n) i) result }
 {
-    sets_of_rows::less(of_agent(t, n, s, i), sets_of_rows::below(i))
+    of_agent(t, n, s, i) - Set::below(i)
 }
 
 // The rows of agents that share scope q with row i's agent.
@@ -65,7 +65,7 @@ pub fn together(t: &Run, n: usize, s: &[u64], i: usize) -> Set
     requires { (i < n) × Opened (table_in t.now n) n s.now }
     ensures { Rows n (at_together (table_in t.now n) i) result }
 {
-    sets_of_rows::and(reach(t, n, s, i), hears(t, n, s, i))
+    reach(t, n, s, i) & hears(t, n, s, i)
 }
 
 // The accesses of a class in the set m.
@@ -73,12 +73,9 @@ pub fn of_classes(t: &Run, n: usize, s: &[u64], m: usize) -> Set
     requires { (m < 16) × Opened (table_in t.now n) n s.now }
     ensures { Rows n (classed_in (table_in t.now n) m) result }
 {
-    let mut a = sets_of_rows::none();
+    let mut a = Set::none();
     for q in 0..4 {
-        a = sets_of_rows::or(
-            a,
-            sets_of_rows::only_if(holds_class(m, q), kept::get(s, crate::CLASSED, q)),
-        );
+        a |= kept::get(s, crate::CLASSED, q).only_if(holds_class(m, q));
     }
     a
 }

@@ -66,10 +66,7 @@ fn number(keys: &mut [u64], loc: &mut [u64], t: &Run, x: Set, whole: bool) -> us
     ensures { Numbered (key_in whole (rows_in t.now)) x ROWS keys.new loc.new result }
 {
     let mut l = 0;
-    let mut left = x;
-    while sets_of_rows::some(left) {
-        let i = sets_of_rows::first(left);
-        left = sets_of_rows::but_first(left);
+    for i in x {
         let k = key(t, i, whole);
         l = number_row(keys, loc, i, l, k);
     }
@@ -82,10 +79,7 @@ fn place(s: &mut [u64], loc: &[u64], base: usize, x: Set)
     ensures { Placed base loc.now x s.old s.new }
 {
     bits::clear(s, base, base + 256);
-    let mut left = x;
-    while sets_of_rows::some(left) {
-        let i = sets_of_rows::first(left);
-        left = sets_of_rows::but_first(left);
+    for i in x {
         let k = loc[i] as usize;
         kept::put_bit(s, base, k, i);
     }
@@ -97,10 +91,7 @@ fn spread(s: &mut [u64], by: &[u64], loc: &[u64], base: usize, x: Set)
     ensures { Filled base x (of_number by.now loc.now) s.old s.new }
 {
     bits::clear(s, base, base + 256);
-    let mut left = x;
-    while sets_of_rows::some(left) {
-        let i = sets_of_rows::first(left);
-        left = sets_of_rows::but_first(left);
+    for i in x {
         let k = loc[i] as usize;
         kept::put(s, base, i, kept::get(by, 0, k));
     }

@@ -72,7 +72,7 @@ fn join_agent(s: &mut [u64], l: usize, a: usize, b: usize)
     ensures { (p : List (List ℕ)) → Level p a b l → Adds p a b s.old s.new }
 {
     let v = kept::get(s, 0, AGENT + b);
-    if sets_of_rows::some(v) {
+    if v.has_any() {
         join_from(s, SHARE + 10 * a, l, v);
     }
 }
@@ -96,7 +96,7 @@ fn share_if(s: &mut [u64], p: Places, a: usize)
     requires { (SHARE_END ≤ length s.old) × (a < AGENTS) }
     ensures { SharedIf p a s.old s.new }
 {
-    if sets_of_rows::some(kept::get(s, 0, AGENT + a)) {
+    if kept::get(s, 0, AGENT + a).has_any() {
         share_one(s, p, a);
     }
 }
@@ -116,10 +116,10 @@ fn heard(s: &[u64], a: usize) -> Set
     requires { (SHARE_END ≤ length s.now) × (a < AGENTS) }
     ensures { Hears s.now a SCOPES result }
 {
-    let mut x = sets_of_rows::none();
+    let mut x = Set::none();
     for q in 0..SCOPES {
-        let y = sets_of_rows::and(kept::get(s, 0, SCOPE + q), kept::get(s, SHARE + 10 * a, q));
-        x = sets_of_rows::or(x, y);
+        let y = kept::get(s, 0, SCOPE + q) & kept::get(s, SHARE + 10 * a, q);
+        x |= y;
     }
     x
 }
@@ -129,7 +129,7 @@ fn hear_if(s: &mut [u64], a: usize)
     requires { (HEARS_END ≤ length s.old) × (a < AGENTS) }
     ensures { HeardIf a s.old s.new }
 {
-    if sets_of_rows::some(kept::get(s, 0, AGENT + a)) {
+    if kept::get(s, 0, AGENT + a).has_any() {
         let x = heard(s, a);
         kept::put(s, crate::HEARS, a, x);
     }
@@ -150,10 +150,10 @@ fn hosted(s: &[u64], p: Places) -> Set
     requires { SHARE_END ≤ length s.now }
     ensures { HostsTo p AGENTS s.now result }
 {
-    let mut x = sets_of_rows::none();
+    let mut x = Set::none();
     for a in 0..model::AGENTS {
         let v = kept::get(s, 0, AGENT + a);
-        x = sets_of_rows::or(x, sets_of_rows::only_if(scopes::is_host(p, a as u8), v));
+        x |= v.only_if(scopes::is_host(p, a as u8));
     }
     x
 }

@@ -23,7 +23,7 @@ fn either(s: &[u64], a: usize, b: usize) -> Set
     requires { (2 * FILED ≤ length s.now) × (a < FILED) × (b < FILED) }
     ensures { (j : ℕ) → in_set result j ≡ (in_set (nth s.now 0 a) j or in_set (nth s.now 0 b) j) }
 {
-    sets_of_rows::or(kept::get(s, 0, a), kept::get(s, 0, b))
+    kept::get(s, 0, a) | kept::get(s, 0, b)
 }
 
 // The rows of set a, b or c.
@@ -31,7 +31,7 @@ fn any(s: &[u64], a: usize, b: usize, c: usize) -> Set
     requires { (2 * FILED ≤ length s.now) × ThreeOf FILED a b c }
     ensures { (j : ℕ) → in_set result j ≡ (in_set (nth s.now 0 a) j or in_set (nth s.now 0 b) j or in_set (nth s.now 0 c) j) }
 {
-    sets_of_rows::or(either(s, a, b), kept::get(s, 0, c))
+    either(s, a, b) | kept::get(s, 0, c)
 }
 
 // The rows of set a, b, c or d.
@@ -39,7 +39,7 @@ fn four(s: &[u64], a: usize, b: usize, c: usize, d: usize) -> Set
     requires { (2 * FILED ≤ length s.now) × ThreeOf FILED a b c × (d < FILED) }
     ensures { (j : ℕ) → in_set result j ≡ (in_set (nth s.now 0 a) j or in_set (nth s.now 0 b) j or (in_set (nth s.now 0 c) j or in_set (nth s.now 0 d) j)) }
 {
-    sets_of_rows::or(either(s, a, b), either(s, c, d))
+    either(s, a, b) | either(s, c, d)
 }
 
 fn make_accesses(s: &mut [u64])
@@ -50,7 +50,7 @@ fn make_accesses(s: &mut [u64])
     let writes = any(s, 1, 3, 4);
     kept::put(s, TESTS, 0, reads);
     kept::put(s, TESTS, 1, writes);
-    kept::put(s, TESTS, 2, sets_of_rows::or(reads, writes));
+    kept::put(s, TESTS, 2, reads | writes);
 }
 
 fn make_kinds(s: &mut [u64])
@@ -81,8 +81,8 @@ fn make_marked(s: &mut [u64])
 {
     let public = four(s, 61, 63, 65, 67);
     let own = kept::get(s, 0, SCOPE);
-    let available = sets_of_rows::less(four(s, 62, 63, 66, 67), own);
-    let visible = sets_of_rows::less(four(s, 64, 65, 66, 67), own);
+    let available = four(s, 62, 63, 66, 67) - own;
+    let visible = four(s, 64, 65, 66, 67) - own;
     kept::put(s, TESTS, 8, public);
     kept::put(s, TESTS, 9, available);
     kept::put(s, TESTS, 10, visible);
@@ -106,10 +106,10 @@ fn holding(s: &[u64], q: usize) -> Set
     requires { (2 * FILED ≤ length s.now) × (q < 4) }
     ensures { HeldTo s.now q 16 result }
 {
-    let mut a = sets_of_rows::none();
+    let mut a = Set::none();
     for m in 0..16 {
         let b = crate::ask::holds_class(m, q);
-        a = sets_of_rows::or(a, sets_of_rows::only_if(b, kept::get(s, 0, CLASSES + m)));
+        a |= kept::get(s, 0, CLASSES + m).only_if(b);
     }
     a
 }
@@ -120,10 +120,7 @@ fn sort_class(s: &mut [u64], q: usize)
     ensures { SortsClass q s.old s.new }
 {
     let a = holding(s, q);
-    let b = sets_of_rows::and(
-        kept::get(s, crate::ACCESS, 0),
-        kept::get(s, crate::BY_CLASS, q),
-    );
+    let b = kept::get(s, crate::ACCESS, 0) & kept::get(s, crate::BY_CLASS, q);
     kept::put(s, crate::HOLDING, q, a);
     kept::put(s, crate::CLASSED, q, b);
 }

@@ -25,11 +25,8 @@ pub fn leads_down(w: &[u64], base: usize, x: Set) -> bool
     requires { base + 2 * ROWS ≤ length w.now }
     ensures { result ≡ down_from w.now base x }
 {
-    let mut left = x;
-    while sets_of_rows::some(left) {
-        let a = sets_of_rows::first(left);
-        left = sets_of_rows::but_first(left);
-        if sets_of_rows::some(sets_of_rows::less(kept::get(w, base, a), sets_of_rows::above(a))) {
+    for a in x {
+        if (kept::get(w, base, a) - Set::above(a)).has_any() {
             return false;
         }
     }
@@ -42,7 +39,7 @@ fn add_inter_thread(t: &Run, n: usize, s: &[u64], c: usize, ends: Set, down: boo
     ensures { AddsInter (table_in t.now n) n c w.old w.new }
 {
     let k = sets_closure::of_classes(t, n, s, ends, c);
-    if !(sets_of_rows::some(ends) | sets_closure::is_synced(t, n, s, k, w)) {
+    if !(ends.has_any() | sets_closure::is_synced(t, n, s, k, w)) {
         return;
     }
     sets_closure::reach::fill_reach(t, n, s, c, ends, k, down, w);

@@ -15,15 +15,12 @@ pub fn fill_depends(t: &Run, n: usize, w: &mut [u64]) -> Set
     ensures { MadeDepends (table_in t.now n) n result w.old w.new }
 {
     bits::clear(w, sets_grids::DEPENDS, sets_grids::DEPENDS_END);
-    let mut ends = sets_of_rows::none();
+    let mut ends = Set::none();
     for k in 0..run::dependencies(t) {
         let x = run::first_of(t, k) as usize;
         let y = run::second_of(t, k) as usize;
         kept::put_bit(w, sets_grids::DEPENDS, x, y);
-        ends = sets_of_rows::or(
-            ends,
-            sets_of_rows::or(sets_of_rows::bit(x), sets_of_rows::bit(y)),
-        );
+        ends |= Set::bit(x) | Set::bit(y);
     }
     ends
 }
@@ -36,10 +33,7 @@ pub fn fill_system(t: &Run, n: usize, s: &[u64], ends: Set, down: bool, w: &mut 
     bits::clear(w, sets_grids::SYSTEM, sets_grids::SYSTEM_END);
     let k = sets_closure::of_none(t, n, s, ends);
     sets_closure::reach::fill_reach(t, n, s, 16, ends, k, down, w);
-    let mut left = ends;
-    while sets_of_rows::some(left) {
-        let i = sets_of_rows::first(left);
-        left = sets_of_rows::but_first(left);
+    for i in ends {
         let to = kept::get(w, sets_grids::REACH_AT, i);
         kept::put(w, sets_grids::SYSTEM, i, to);
     }

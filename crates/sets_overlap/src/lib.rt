@@ -25,19 +25,18 @@ fn take_in(t: &Run, n: usize, s: &[u64], unmet: Set, near: &mut [u64]) -> Set
     requires { (any_below ROWS (in_set unmet) ≡ true) × Opened (table_in t.now n) n s.now × Meeting (table_in t.now n) n unmet near.old }
     ensures { Met (table_in t.now n) n unmet result near.new }
 {
-    let i = sets_of_rows::first(unmet);
+    let i = unmet.first().unwrap();
     let start = fields::start(t, i);
     let end = fields::end(t, i);
     let own = kept::get(s, sets_of_table::PLACE, i);
-    let rest = sets_of_rows::less(unmet, own);
+    let rest = unmet - own;
     let mut left = rest;
-    let mut all = sets_of_rows::or(kept::get(near, 0, i), own);
-    while sets_of_rows::some(left) {
-        let j = sets_of_rows::first(left);
+    let mut all = kept::get(near, 0, i) | own;
+    while let Some(j) = left.first() {
         let here = kept::get(s, sets_of_table::PLACE, j);
-        left = sets_of_rows::less(left, here);
+        left = left - here;
         if (start < fields::end(t, j)) & (fields::start(t, j) < end) {
-            all = sets_of_rows::or(all, here);
+            all |= here;
             kept::join(near, 0, j, own);
         }
     }
@@ -51,7 +50,7 @@ fn meet(t: &Run, n: usize, s: &[u64], near: &mut [u64])
     ensures { Near (table_in t.now n) n near.new }
 {
     let mut unmet = sets_of_table::rows(s, sets_of_table::ACCESS);
-    while sets_of_rows::some(unmet) {
+    while unmet.has_any() {
         unmet = take_in(t, n, s, unmet, near);
     }
 }
@@ -62,7 +61,7 @@ fn overlap_row(t: &Run, n: usize, s: &[u64], near: &[u64], i: usize) -> Set
     requires { (i < n) × (access (row_of (rows_in t.now) i) ≡ true) × Told (table_in t.now n) n s.now near.now }
     ensures { Rows n (overlaps (table_in t.now n) i) result }
 {
-    let j = sets_of_rows::first(kept::get(s, sets_of_table::PLACE, i));
+    let j = kept::get(s, sets_of_table::PLACE, i).first().unwrap();
     kept::get(near, 0, j)
 }
 
@@ -75,10 +74,7 @@ pub fn fill_overlaps(t: &Run, n: usize, s: &[u64], w: &mut [u64])
     let mut near = [0u64; 256];
     meet(t, n, s, &mut near);
     bits::clear(w, work_area::OVERLAP, work_area::OVERLAP_END);
-    let mut left = sets_of_table::rows(s, sets_of_table::ACCESS);
-    while sets_of_rows::some(left) {
-        let i = sets_of_rows::first(left);
-        left = sets_of_rows::but_first(left);
+    for i in sets_of_table::rows(s, sets_of_table::ACCESS) {
         let x = overlap_row(t, n, s, &near, i);
         kept::put(w, work_area::OVERLAP, i, x);
     }

@@ -36,15 +36,9 @@ fn overwritten_by(t: &Run, n: usize, s: &[u64], source: usize, y: usize, w: &[u6
     requires { (source < n) × RowThat reads (row_of (rows_in t.now)) n y × ToJudge (table_in t.now n) n s.now w.now }
     ensures { result ≡ found_writer (table_in t.now n) source y }
 {
-    let over = sets_of_rows::and(
-        kept::get(w, work_area::OVERLAP, y),
-        sets_of_table::rows(s, sets_of_table::WRITES),
-    );
-    let mut left = sets_of_rows::and(kept::get(w, sets_grids::SOME, source), over);
-    while sets_of_rows::some(left) {
-        let z = sets_of_rows::first(left);
-        left = sets_of_rows::but_first(left);
-        if sets_of_rows::has(kept::get(w, sets_grids::SOME, z), y) {
+    let over = kept::get(w, work_area::OVERLAP, y) & sets_of_table::rows(s, sets_of_table::WRITES);
+    for z in kept::get(w, sets_grids::SOME, source) & over {
+        if kept::get(w, sets_grids::SOME, z).has(y) {
             let m = overwrites(t, n, source, z, y, w);
             if 0 < m {
                 return Overwrite::At {
@@ -63,10 +57,7 @@ pub fn first_overwrite(t: &Run, n: usize, src: &[u16], s: &[u64], w: &[u64]) -> 
     requires { (n ≤ length src.now) × ToJudge (table_in t.now n) n s.now w.now }
     ensures { result ≡ found_overwrite (table_in t.now n) (source_in src.now) }
 {
-    let mut left = sets_of_table::rows(s, sets_of_table::READS);
-    while sets_of_rows::some(left) {
-        let y = sets_of_rows::first(left);
-        left = sets_of_rows::but_first(left);
+    for y in sets_of_table::rows(s, sets_of_table::READS) {
         let source = src[y] as usize;
         if source < n {
             let o = overwritten_by(t, n, s, source, y, w);

@@ -31,12 +31,8 @@ fn conflicting(t: &Run, n: usize, s: &[u64], i: usize, w: &[u64]) -> Set
     ensures { Rows n (above (conflict (table_in t.now n)) i) result }
 {
     let writes = sets_of_table::rows(s, sets_of_table::WRITES);
-    let over = sets_of_rows::and(kept::get(w, work_area::OVERLAP, i), sets_of_rows::above(i));
-    if sets_of_rows::has(writes, i) {
-        over
-    } else {
-        sets_of_rows::and(over, writes)
-    }
+    let over = kept::get(w, work_area::OVERLAP, i) & Set::above(i);
+    if writes.has(i) { over } else { over & writes }
 }
 
 // The shared bytes of i and j at which neither is ordered before the other.
@@ -55,10 +51,7 @@ fn open_after(t: &Run, n: usize, s: &[u64], i: usize, w: &[u64]) -> Set
     requires { RowThat access (row_of (rows_in t.now)) n i × ToJudge (table_in t.now n) n s.now w.now }
     ensures { Rows n (open_after (table_in t.now n) i) result }
 {
-    sets_of_rows::less(
-        conflicting(t, n, s, i, w),
-        kept::get(w, work_area::MUTUAL, i),
-    )
+    conflicting(t, n, s, i, w) - kept::get(w, work_area::MUTUAL, i)
 }
 
 // Whether bit k of m is set.
@@ -76,14 +69,8 @@ pub fn first_race(t: &Run, n: usize, s: &[u64], w: &[u64]) -> Found
     ensures { result ≡ found_race (table_in t.now n) }
 {
     let mut answer = Found::Nothing;
-    let mut left = sets_of_table::rows(s, sets_of_table::ACCESS);
-    'pairs: while sets_of_rows::some(left) {
-        let x = sets_of_rows::first(left);
-        left = sets_of_rows::but_first(left);
-        let mut others = open_after(t, n, s, x, w);
-        while sets_of_rows::some(others) {
-            let y = sets_of_rows::first(others);
-            others = sets_of_rows::but_first(others);
+    'pairs: for x in sets_of_table::rows(s, sets_of_table::ACCESS) {
+        for y in open_after(t, n, s, x, w) {
             let bytes = unordered(t, n, x, y, w);
             if bytes == 0 {
                 continue;
@@ -120,13 +107,11 @@ fn count_ordered(t: &Run, n: usize, i: usize, others: Set, w: &[u64]) -> u16
     requires { (i < n) × Rows n (open_after (table_in t.now n) i) others × Judged (table_in t.now n) n w.now }
     ensures { result ≡ row_count n (conflict_ordered (table_in t.now n)) i }
 {
-    let mut left = others;
     let mut count = 0;
-    while sets_of_rows::some(left) {
-        if unordered(t, n, i, sets_of_rows::first(left), w) == 0 {
+    for j in others {
+        if unordered(t, n, i, j, w) == 0 {
             count += 1;
         }
-        left = sets_of_rows::but_first(left);
     }
     count
 }
@@ -141,15 +126,12 @@ pub fn count_pairs(t: &Run, n: usize, s: &[u64], w: &[u64]) -> Counts
         mutuals: 0,
         ordered: 0,
     };
-    let mut left = sets_of_table::rows(s, sets_of_table::ACCESS);
-    while sets_of_rows::some(left) {
-        let i = sets_of_rows::first(left);
-        left = sets_of_rows::but_first(left);
+    for i in sets_of_table::rows(s, sets_of_table::ACCESS) {
         let others = conflicting(t, n, s, i, w);
         let mutual = kept::get(w, work_area::MUTUAL, i);
-        c.conflicting += sets_of_rows::count(others) as u16;
-        c.mutuals += sets_of_rows::count(sets_of_rows::and(others, mutual)) as u16;
-        c.ordered += count_ordered(t, n, i, sets_of_rows::less(others, mutual), w);
+        c.conflicting += others.count() as u16;
+        c.mutuals += (others & mutual).count() as u16;
+        c.ordered += count_ordered(t, n, i, others - mutual, w);
     }
     c
 }

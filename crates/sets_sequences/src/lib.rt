@@ -64,14 +64,10 @@ fn end_of(t: &Run, n: usize, s: &[u64], h: usize, w: &[u64]) -> u32
 {
     let counted = run::counted(t);
     let rank = fields::rank(t, h);
-    let mut left = sets_of_rows::and(
-        kept::get(w, sets_grids::LATER, h),
-        kept::get(s, sets_of_table::BY_KIND, kinds::ATOMIC_WRITE as usize),
-    );
     let mut end = NEVER;
-    while sets_of_rows::some(left) {
-        let z = sets_of_rows::first(left);
-        left = sets_of_rows::but_first(left);
+    for z in kept::get(w, sets_grids::LATER, h)
+        & kept::get(s, sets_of_table::BY_KIND, kinds::ATOMIC_WRITE as usize)
+    {
         let k = since(counted, fields::rank(t, z), rank);
         end = lower(k, end);
     }
@@ -85,13 +81,9 @@ fn add_head(t: &Run, n: usize, s: &[u64], h: usize, end: u32, w: &mut [u64])
 {
     let counted = run::counted(t);
     let rank = fields::rank(t, h);
-    let mut left = sets_of_rows::and(
-        kept::get(w, sets_grids::LATER, h),
-        kept::get(s, sets_of_table::BY_KIND, kinds::RMW as usize),
-    );
-    while sets_of_rows::some(left) {
-        let k = sets_of_rows::first(left);
-        left = sets_of_rows::but_first(left);
+    for k in kept::get(w, sets_grids::LATER, h)
+        & kept::get(s, sets_of_table::BY_KIND, kinds::RMW as usize)
+    {
         let near = since(counted, fields::rank(t, k), rank) < end;
         join_if(near, k, h, w);
     }
@@ -104,10 +96,7 @@ pub fn fill_heads(t: &Run, n: usize, s: &[u64], w: &mut [u64])
 {
     first_byte(run::rows_of(t));
     bits::clear(w, sets_grids::HEADS, sets_grids::HEADS_END);
-    let mut left = sets_of_table::rows(s, sets_of_table::RANKED);
-    while sets_of_rows::some(left) {
-        let h = sets_of_rows::first(left);
-        left = sets_of_rows::but_first(left);
+    for h in sets_of_table::rows(s, sets_of_table::RANKED) {
         kept::put_bit(w, sets_grids::HEADS, h, h);
         let end = end_of(t, n, s, h, w);
         add_head(t, n, s, h, end, w);

@@ -23,12 +23,10 @@ fn getters(t: &Run, n: usize, s: &[u64], y: usize) -> Set
     ensures { Rows n (gets (table_in t.now n) y) result }
 {
     let class = kept::get(s, sets_of_table::HOLDING, fields::class(t, y));
-    let after = sets_of_rows::and(
-        sets_of_table::ask::after(t, n, s, y),
-        sets_of_table::rows(s, sets_of_table::BARRIER),
-    );
-    let all = sets_of_rows::or(sets_of_rows::and(after, class), sets_of_rows::bit(y));
-    sets_of_rows::and(all, sets_of_table::rows(s, sets_of_table::ACQUIRES))
+    let after = sets_of_table::ask::after(t, n, s, y)
+        & sets_of_table::rows(s, sets_of_table::BARRIER);
+    let all = (after & class) | Set::bit(y);
+    all & sets_of_table::rows(s, sets_of_table::ACQUIRES)
 }
 
 // The rows x join the getters of each head of `source` that is mutually-ordered with y.
@@ -36,13 +34,7 @@ fn join_heads(t: &Run, n: usize, y: usize, source: usize, x: Set, w: &mut [u64])
     requires { Joining (table_in t.now n) n y source x w.old }
     ensures { Takes (table_in t.now n) n y source w.old w.new }
 {
-    let mut left = sets_of_rows::and(
-        kept::get(w, sets_grids::HEADS, source),
-        kept::get(w, work_area::MUTUAL, y),
-    );
-    while sets_of_rows::some(left) {
-        let h = sets_of_rows::first(left);
-        left = sets_of_rows::but_first(left);
+    for h in kept::get(w, sets_grids::HEADS, source) & kept::get(w, work_area::MUTUAL, y) {
         kept::join(w, sets_grids::TAKEN, h, x);
     }
 }
@@ -53,7 +45,7 @@ fn take(t: &Run, n: usize, s: &[u64], y: usize, source: usize, w: &mut [u64])
     ensures { Takes (table_in t.now n) n y source w.old w.new }
 {
     let gets = getters(t, n, s, y);
-    if sets_of_rows::some(gets) {
+    if gets.has_any() {
         join_heads(t, n, y, source, gets, w);
     }
 }
@@ -76,13 +68,9 @@ pub fn fill_taken(t: &Run, n: usize, s: &[u64], w: &mut [u64])
     ensures { MadeGrid TAKEN TAKEN_END TAKEN n (taken_by (table_in t.now n)) w.old w.new }
 {
     bits::clear(w, sets_grids::TAKEN, sets_grids::TAKEN_END);
-    let mut left = sets_of_rows::and(
-        sets_of_table::rows(s, sets_of_table::ATOMIC),
-        sets_of_table::rows(s, sets_of_table::READS),
-    );
-    while sets_of_rows::some(left) {
-        let y = sets_of_rows::first(left);
-        left = sets_of_rows::but_first(left);
+    for y in sets_of_table::rows(s, sets_of_table::ATOMIC)
+        & sets_of_table::rows(s, sets_of_table::READS)
+    {
         take_from(t, n, s, y, w);
     }
 }

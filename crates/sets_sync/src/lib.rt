@@ -27,15 +27,13 @@ fn carried(t: &Run, n: usize, s: &[u64], a: usize, w: &[u64]) -> Set
     requires { (a < n) × Given (table_in t.now n) n s.now w.now × Grid TAKEN n (taken_by (table_in t.now n)) w.now }
     ensures { Rows n (carried_to (table_in t.now n) a) result }
 {
-    if !sets_of_rows::has(sets_of_table::rows(s, sets_of_table::BARRIER), a) {
+    if !sets_of_table::rows(s, sets_of_table::BARRIER).has(a) {
         return kept::get(w, sets_grids::TAKEN, a);
     }
     let classes = sets_of_table::ask::of_classes(t, n, s, fields::classes(t, a));
-    let writers = sets_of_rows::and(
-        sets_of_table::ask::after(t, n, s, a),
-        sets_of_table::rows(s, sets_of_table::RANKED),
-    );
-    sets_of_rows::walk::union(w, sets_grids::TAKEN, sets_of_rows::and(writers, classes))
+    let writers = sets_of_table::ask::after(t, n, s, a)
+        & sets_of_table::rows(s, sets_of_table::RANKED);
+    kept::union(w, sets_grids::TAKEN, writers & classes)
 }
 
 // The acquire rows that the release row a synchronizes-with: by a sequence or by a control barrier, where both scopes are shared.
@@ -44,12 +42,9 @@ fn sync_row(t: &Run, n: usize, s: &[u64], a: usize, w: &[u64]) -> Set
     requires { RowThat releases (row_of (rows_in t.now)) n a × Given (table_in t.now n) n s.now w.now × Carrying (table_in t.now n) n w.now }
     ensures { Rows n (synchronizes (table_in t.now n) a) result }
 {
-    let to = sets_of_rows::or(carried(t, n, s, a, w), kept::get(w, sets_grids::PASSED, a));
-    let acquires = sets_of_rows::and(to, sets_of_table::rows(s, sets_of_table::ACQUIRES));
-    sets_of_rows::drop(
-        sets_of_rows::and(acquires, sets_of_table::ask::together(t, n, s, a)),
-        a,
-    )
+    let to = carried(t, n, s, a, w) | kept::get(w, sets_grids::PASSED, a);
+    let acquires = to & sets_of_table::rows(s, sets_of_table::ACQUIRES);
+    (acquires & sets_of_table::ask::together(t, n, s, a)).without(a)
 }
 
 // SYNC.
@@ -58,10 +53,7 @@ pub fn fill_sync(t: &Run, n: usize, s: &[u64], w: &mut [u64])
     ensures { MadeGrid SYNC SYNC_END SYNC n (synchronizes (table_in t.now n)) w.old w.new }
 {
     bits::clear(w, work_area::SYNC, work_area::SYNC_END);
-    let mut left = sets_of_table::rows(s, sets_of_table::RELEASES);
-    while sets_of_rows::some(left) {
-        let a = sets_of_rows::first(left);
-        left = sets_of_rows::but_first(left);
+    for a in sets_of_table::rows(s, sets_of_table::RELEASES) {
         let x = sync_row(t, n, s, a, w);
         kept::put(w, work_area::SYNC, a, x);
     }

@@ -13,16 +13,16 @@ get-requires c = omega (arith, c.requires.1)
 pub loop-left-init : goal.loop-left-init
 loop-left-init c =
     let pre = c.requires in
-    let rows = marks_of _ _ _ _ pre.0 c.below.ensures c.get.ensures c.and-left.ensures in
+    let rows = marks_of _ _ _ _ pre.0 c.below.ensures c.get.ensures c.bitand-left.ensures in
     search_begin _ _ (loop_off pre.2 rows)
 
 pub first-x-requires : goal.first-x-requires
-first-x-requires c = sym c.some.ensures ∙ c.loop-left-test.true
+first-x-requires c = sym c.has_any.ensures ∙ c.loop-left-test.true
 
 pub leads_back-requires : goal.leads_back-requires
 leads_back-requires c =
     let pre = c.requires in
-    let rows = marks_of _ _ _ _ pre.0 c.below.ensures c.get.ensures c.and-left.ensures in
+    let rows = marks_of _ _ _ _ pre.0 c.below.ensures c.get.ensures c.bitand-left.ensures in
     let inv = c.loop-left.invariant in
     let low = c.first-x.ensures in
     (pre.0, pre.1, loop_among pre.2 rows inv low)
@@ -30,11 +30,11 @@ leads_back-requires c =
 pub returns-then-leads_back : goal.returns-then-leads_back
 returns-then-leads_back c =
     let pre = c.requires in
-    let rows = marks_of _ _ _ _ pre.0 c.below.ensures c.get.ensures c.and-left.ensures in
+    let rows = marks_of _ _ _ _ pre.0 c.below.ensures c.get.ensures c.bitand-left.ensures in
     loop_found pre.2 rows c.loop-left.invariant c.first-x.ensures _ c.leads_back.ensures c.if-leads_back.true
 
 pub but_first-left-requires : goal.but_first-left-requires
-but_first-left-requires c = sym c.some.ensures ∙ c.loop-left-test.true
+but_first-left-requires c = sym c.has_any.ensures ∙ c.loop-left-test.true
 
 pub loop-left-smaller : goal.loop-left-smaller
 loop-left-smaller c = walk_less c.first-x.ensures c.but_first-left.ensures
@@ -42,11 +42,11 @@ loop-left-smaller c = walk_less c.first-x.ensures c.but_first-left.ensures
 pub loop-left-preserved : goal.loop-left-preserved
 loop-left-preserved c =
     let pre = c.requires in
-    let rows = marks_of _ _ _ _ pre.0 c.below.ensures c.get.ensures c.and-left.ensures in
+    let rows = marks_of _ _ _ _ pre.0 c.below.ensures c.get.ensures c.bitand-left.ensures in
     search_turn _ _ (loop_off pre.2 rows) c.loop-left.invariant c.first-x.ensures c.but_first-left.ensures (loop_not pre.2 rows _ _ c.leads_back.ensures c.if-leads_back.false)
 
 pub returns : goal.returns
 returns c =
     let pre = c.requires in
-    let rows = marks_of _ _ _ _ pre.0 c.below.ensures c.get.ensures c.and-left.ensures in
-    loop_none pre.2 rows pre.0 (search_end _ _ (loop_off pre.2 rows) _ (sym c.some.ensures ∙ c.loop-left-test.false) c.loop-left.invariant.1)
+    let rows = marks_of _ _ _ _ pre.0 c.below.ensures c.get.ensures c.bitand-left.ensures in
+    loop_none pre.2 rows pre.0 (search_end _ _ (loop_off pre.2 rows) _ (sym c.has_any.ensures ∙ c.loop-left-test.false) c.loop-left.invariant.1)

@@ -7,7 +7,7 @@ pub get-requires : goal.get-requires
 get-requires c = let pre = c.requires in omega (arith, pre.0, pre.2.few _ pre.2.own, pre.1)
 
 pub loop-ahead-init : goal.loop-ahead-init
-loop-ahead-init c = go_begin c.requires.0 (c.requires.2.few _ c.requires.2.own) c.requires.2 _ _ (edges_of_lem _ _ c.get.ensures) c.and-left.ensures
+loop-ahead-init c = go_begin c.requires.0 (c.requires.2.few _ c.requires.2.own) c.requires.2 _ _ (edges_of_lem _ _ c.get.ensures) c.bitand-left.ensures
 
 pub has-requires : goal.has-requires
 has-requires c =
@@ -19,10 +19,10 @@ returns-then-has c =
     go_back c.requires.0 (c.requires.2.few _ c.requires.2.own) c.requires.2 c.loop-ahead.invariant (sym c.has.ensures ∙ c.if-has.true)
 
 pub first-i-requires : goal.first-i-requires
-first-i-requires c = sym c.some.ensures ∙ c.loop-ahead-test.true
+first-i-requires c = sym c.has_any.ensures ∙ c.loop-ahead-test.true
 
-pub drop-ahead-requires : goal.drop-ahead-requires
-drop-ahead-requires c = c.first-i.ensures.bound
+pub without-ahead-requires : goal.without-ahead-requires
+without-ahead-requires c = c.first-i.ensures.bound
 
 pub get-requires-in-loop-ahead : goal.get-requires-in-loop-ahead
 get-requires-in-loop-ahead c =
@@ -30,13 +30,13 @@ get-requires-in-loop-ahead c =
 
 pub loop-ahead-smaller : goal.loop-ahead-smaller
 loop-ahead-smaller c =
-    go_less c.requires.0 (c.requires.2.few _ c.requires.2.own) c.requires.2 c.loop-ahead.invariant c.first-i.ensures _ c.drop-ahead.ensures
+    go_less c.requires.0 (c.requires.2.few _ c.requires.2.own) c.requires.2 c.loop-ahead.invariant c.first-i.ensures _ c.without-ahead.ensures
 
 pub loop-ahead-preserved : goal.loop-ahead-preserved
 loop-ahead-preserved c =
-    go_turn c.requires.0 (c.requires.2.few _ c.requires.2.own) c.requires.2 c.loop-ahead.invariant c.first-i.ensures _ c.drop-ahead.ensures _ _ _
-    (sym c.has.ensures ∙ c.if-has.false) (edges_of_lem _ _ c.get-in-loop-ahead.ensures) c.or.ensures c.and-left-in-loop-ahead.ensures
+    go_turn c.requires.0 (c.requires.2.few _ c.requires.2.own) c.requires.2 c.loop-ahead.invariant c.first-i.ensures _ c.without-ahead.ensures _ _ _
+    (sym c.has.ensures ∙ c.if-has.false) (edges_of_lem _ _ c.get-in-loop-ahead.ensures) c.bitor.ensures c.bitand-left-in-loop-ahead.ensures
 
 pub returns : goal.returns
 returns c =
-    go_none c.requires.0 (c.requires.2.few _ c.requires.2.own) c.requires.2 c.loop-ahead.invariant (sym c.some.ensures ∙ c.loop-ahead-test.false)
+    go_none c.requires.0 (c.requires.2.few _ c.requires.2.own) c.requires.2 c.loop-ahead.invariant (sym c.has_any.ensures ∙ c.loop-ahead-test.false)

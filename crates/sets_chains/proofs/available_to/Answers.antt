@@ -8,48 +8,38 @@ use Rattle.sets_chains.specs.Filled.{met_off, met_on, met_rows}
 use native.Mathlib.Omega.{arith}
 use Rattle.sets_chains.proofs.available_to.Goals as goal
 
-pub loop-left-init : goal.loop-left-init
-loop-left-init c = gather_begin _ _ (met_off _ _ _ _) _ c.none-at.ensures
-
-pub first-c-requires : goal.first-c-requires
-first-c-requires c = sym c.some.ensures ∙ c.loop-left-test.true
-
-pub but_first-left-requires : goal.but_first-left-requires
-but_first-left-requires c = sym c.some.ensures ∙ c.loop-left-test.true
+pub loop-c-init : goal.loop-c-init
+loop-c-init c = gather_begin _ _ (met_off _ _ _ _) _ c.none-at.ensures
 
 pub scope-requires : goal.scope-requires
-scope-requires c = c.first-c.ensures.bound
+scope-requires c = c.in-Some.ensures.steps.0.bound
 
 pub sharing-domain-requires : goal.sharing-domain-requires
 unfolding decode
 sharing-domain-requires c =
     let pre = c.requires in
-    let m = member_in _ pre.0.ends (walk_in c.loop-left.invariant.0 c.first-c.ensures) in
+    let m = member_in _ pre.0.ends (walk_in c.loop-c.invariant.0 c.in-Some.ensures.steps.0) in
     let a = scope_low pre.1.opened _ m.0 in
     let e = c.scope.ensures in
     (pre.0.low, omega arith, pre.1.opened)
 
 pub get-requires : goal.get-requires
 get-requires c =
-    omega (arith, c.first-c.ensures.bound, c.requires.1.room)
+    omega (arith, c.in-Some.ensures.steps.0.bound, c.requires.1.room)
 
 pub has-requires : goal.has-requires
 has-requires c =
-    c.first-c.ensures.bound
+    c.in-Some.ensures.steps.0.bound
 
-pub loop-left-smaller : goal.loop-left-smaller
-loop-left-smaller c =
-    walk_less c.first-c.ensures c.but_first-left.ensures
-
-pub loop-left-preserved : goal.loop-left-preserved
+pub loop-c-preserved : goal.loop-c-preserved
 unfolding decode
-loop-left-preserved c =
+loop-c-preserved c =
     let pre = c.requires in
-    let m = member_in _ pre.0.ends (walk_in c.loop-left.invariant.0 c.first-c.ensures) in
+    let m = member_in _ pre.0.ends (walk_in c.loop-c.invariant.0 c.in-Some.ensures.steps.0) in
     let f = c.sharing-domain.ensures in
-    gather_turn _ _ (met_off _ _ _ _) c.loop-left.invariant c.first-c.ensures c.but_first-left.ensures
-    (met_on _ _ _ _ _ _ _ _ _ _ _ _ m.0 (rw c.scope.ensures at f) (grid_at pre.2.rows m.0 c.get.ensures) c.and-to.ensures c.has.ensures c.only_if.ensures c.or-at.ensures)
+    gather_turn _ _ (met_off _ _ _ _) c.loop-c.invariant c.in-Some.ensures.steps.0 c.in-Some.ensures.steps.1
+    (met_on _ _ _ _ _ _ _ _ _ _ _ _ m.0 (rw c.scope.ensures at f) (grid_at pre.2.rows m.0 c.get.ensures) c.bitand-to.ensures c.has.ensures c.only_if.ensures c.bitor-at.ensures)
 
 pub returns : goal.returns
 returns c =
-    met_rows c.requires.1.opened _ _ _ c.requires.0.ends (gather_end _ _ (met_off _ _ _ _) _ _ (sym c.some.ensures ∙ c.loop-left-test.false) c.loop-left.invariant.1)
+    met_rows c.requires.1.opened _ _ _ c.requires.0.ends (gather_end _ _ (met_off _ _ _ _) _ _ c.in-None.ensures.steps.0 c.loop-c.invariant.1)

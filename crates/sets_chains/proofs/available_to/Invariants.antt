@@ -6,8 +6,5 @@ use Rattle.sets_of_rows.specs.Walk.{Walk, Gathered}
 use Rattle.sets_chains.specs.Filled.{met_to}
 use Rattle.sets_chains.proofs.available_to.Given as goal
 
-abbrev pub invariant-loop-left : goal.invariant-loop-left
-invariant-loop-left l = Walk l.initial.left l.left × Gathered (met_to (table_in l.t l.n) l.n l.a l.initial.left) l.at (next l.left)
-
-abbrev pub decreases-loop-left : goal.decreases-loop-left
-decreases-loop-left l = ROWS - next l.left
+abbrev pub invariant-loop-c : goal.invariant-loop-c
+invariant-loop-c l = Walk l.initial.c-iterator.left l.c-iterator.left × Gathered (met_to (table_in l.t l.n) l.n l.a l.initial.c-iterator.left) l.at (next l.c-iterator.left)

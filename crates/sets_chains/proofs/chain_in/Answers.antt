@@ -1,3 +1,4 @@
+use Rattle.sets_of_rows.specs.Rows.{started}
 use mathlib.Core.Path.{refl, sym, ◌∙◌}
 use Rattle.sets_of_rows.specs.Walk.{walk_less, walk_in}
 use Rattle.sets_of_rows.specs.Rows.{rows_at}
@@ -21,19 +22,13 @@ pub loop-narrow-init : goal.loop-narrow-init
 loop-narrow-init c =
     (refl, in_begin c.requires.1.opened _ _ c.requires.2)
 
-pub first-v-requires : goal.first-v-requires
-first-v-requires c = sym c.some.ensures ∙ c.loop-narrow-test.true
-
-pub but_first-left-requires : goal.but_first-left-requires
-but_first-left-requires c = sym c.some.ensures ∙ c.loop-narrow-test.true
-
 pub get-requires : goal.get-requires
 get-requires c =
-    omega (arith, c.first-v.ensures.bound, c.requires.1.room, c.loop-narrow.invariant.0)
+    omega (arith, c.in-Some.ensures.steps.0.bound, c.requires.1.room, c.loop-narrow.invariant.0)
 
 pub hears-requires : goal.hears-requires
 hears-requires c =
-    ((member_in _ (in_rows c.requires.1.opened _ (omega (arith, c.requires.0)) c.rows-visible.ensures c.get-own.ensures c.and-left.ensures) (walk_in c.loop-narrow.invariant.1.walk c.first-v.ensures)).0, c.requires.1.opened)
+    ((member_in _ (in_rows c.requires.1.opened _ (omega (arith, c.requires.0)) c.rows-visible.ensures c.get-own.ensures (started c.into_iter-v-iterator.ensures.into_iter_gives c.bitand.ensures)) (walk_in c.loop-narrow.invariant.1.walk c.in-Some.ensures.steps.0)).0, c.requires.1.opened)
 
 pub union-requires : goal.union-requires
 union-requires c =
@@ -41,23 +36,23 @@ union-requires c =
 
 pub put-requires : goal.put-requires
 put-requires c =
-    omega (arith, c.first-v.ensures.bound, c.requires.1.room, c.loop-narrow.invariant.0)
+    omega (arith, c.in-Some.ensures.steps.0.bound, c.requires.1.room, c.loop-narrow.invariant.0)
 
 pub loop-narrow-smaller : goal.loop-narrow-smaller
 loop-narrow-smaller c =
-    walk_less c.first-v.ensures c.but_first-left.ensures
+    walk_less c.in-Some.ensures.steps.0 c.in-Some.ensures.steps.1
 
 pub loop-narrow-preserved : goal.loop-narrow-preserved
 loop-narrow-preserved c =
     let o = c.requires.1.opened in
     let inv = c.loop-narrow.invariant.1 in
-    let r = (in_rows c.requires.1.opened _ (omega (arith, c.requires.0)) c.rows-visible.ensures c.get-own.ensures c.and-left.ensures) in
-    let m = member_in _ r (walk_in inv.walk c.first-v.ensures) in
+    let r = (in_rows c.requires.1.opened _ (omega (arith, c.requires.0)) c.rows-visible.ensures c.get-own.ensures (started c.into_iter-v-iterator.ensures.into_iter_gives c.bitand.ensures)) in
+    let m = member_in _ r (walk_in inv.walk c.in-Some.ensures.steps.0) in
     let e = eqb-true _ _ (split m.1).1 in
-    let b = narrow_rows o _ _ _ (omega (arith, c.requires.0)) c.rows-visible.ensures c.get-own.ensures (c.broader.ensures _ _ o) c.or.ensures c.less-narrow.ensures in (
+    let b = narrow_rows o _ _ _ (omega (arith, c.requires.0)) c.rows-visible.ensures c.get-own.ensures (c.broader.ensures _ _ o) c.bitor.ensures c.sub-narrow.ensures in (
       c.put.ensures.frame.len ∙ c.loop-narrow.invariant.0,
-      in_next o _ _ inv c.first-v.ensures c.but_first-left.ensures
-          (in_turn o _ _ _ _ _ _ _ _ _ _ m.0 (split m.1).0 e (in_wide o _ r inv) (rows_at c.get.ensures (in_own o _ r inv c.first-v.ensures m.0 (split m.1).0 e)) b c.hears.ensures c.and.ensures c.and-next.ensures c.union.ensures c.or-all.ensures)
+      in_next o _ _ inv c.in-Some.ensures.steps.0 c.in-Some.ensures.steps.1
+          (in_turn o _ _ _ _ _ _ _ _ _ _ m.0 (split m.1).0 e (in_wide o _ r inv) (rows_at c.get.ensures (in_own o _ r inv c.in-Some.ensures.steps.0 m.0 (split m.1).0 e)) b c.hears.ensures c.bitand.ensures c.bitand-next.ensures c.union.ensures c.bitor-all.ensures)
           c.put.ensures,
     )
 
@@ -66,4 +61,4 @@ shape_of-w c = c.loop-narrow.invariant.0
 
 pub returns : goal.returns
 returns c =
-    in_end c.requires.1.opened _ (in_rows c.requires.1.opened _ (omega (arith, c.requires.0)) c.rows-visible.ensures c.get-own.ensures c.and-left.ensures) (sym c.some.ensures ∙ c.loop-narrow-test.false) c.loop-narrow.invariant.1
+    in_end c.requires.1.opened _ (in_rows c.requires.1.opened _ (omega (arith, c.requires.0)) c.rows-visible.ensures c.get-own.ensures (started c.into_iter-v-iterator.ensures.into_iter_gives c.bitand.ensures)) (sym c.has_any.ensures ∙ c.loop-narrow-test.false) c.loop-narrow.invariant.1

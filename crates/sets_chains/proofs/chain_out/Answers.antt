@@ -1,3 +1,4 @@
+use Rattle.sets_of_rows.specs.Rows.{started}
 use mathlib.Core.Path.{refl, sym, ◌∙◌}
 use Rattle.sets_of_rows.specs.Walk.{walk_less, walk_in}
 use Rattle.sets_of_rows.specs.Rows.{rows_at}
@@ -21,19 +22,13 @@ pub loop-broad-init : goal.loop-broad-init
 loop-broad-init c =
     (refl, out_begin c.requires.1.opened _ _ c.requires.2)
 
-pub first-a-requires : goal.first-a-requires
-first-a-requires c = sym c.some.ensures ∙ c.loop-broad-test.true
-
-pub but_first-left-requires : goal.but_first-left-requires
-but_first-left-requires c = sym c.some.ensures ∙ c.loop-broad-test.true
-
 pub get-requires : goal.get-requires
 get-requires c =
-    omega (arith, c.first-a.ensures.bound, c.requires.1.room, c.loop-broad.invariant.0)
+    omega (arith, c.in-Some.ensures.steps.0.bound, c.requires.1.room, c.loop-broad.invariant.0)
 
 pub reach-requires : goal.reach-requires
 reach-requires c =
-    ((member_in _ (out_rows c.requires.1.opened _ (omega (arith, c.requires.0)) c.rows.ensures c.get-own.ensures c.and-left.ensures) (walk_in c.loop-broad.invariant.1.walk c.first-a.ensures)).0, c.requires.1.opened)
+    ((member_in _ (out_rows c.requires.1.opened _ (omega (arith, c.requires.0)) c.rows.ensures c.get-own.ensures (started c.into_iter-a-iterator.ensures.into_iter_gives c.bitand.ensures)) (walk_in c.loop-broad.invariant.1.walk c.in-Some.ensures.steps.0)).0, c.requires.1.opened)
 
 pub union-requires : goal.union-requires
 union-requires c =
@@ -41,22 +36,22 @@ union-requires c =
 
 pub put-requires : goal.put-requires
 put-requires c =
-    omega (arith, c.first-a.ensures.bound, c.requires.1.room, c.loop-broad.invariant.0)
+    omega (arith, c.in-Some.ensures.steps.0.bound, c.requires.1.room, c.loop-broad.invariant.0)
 
 pub loop-broad-smaller : goal.loop-broad-smaller
 loop-broad-smaller c =
-    walk_less c.first-a.ensures c.but_first-left.ensures
+    walk_less c.in-Some.ensures.steps.0 c.in-Some.ensures.steps.1
 
 pub loop-broad-preserved : goal.loop-broad-preserved
 loop-broad-preserved c =
     let o = c.requires.1.opened in
     let inv = c.loop-broad.invariant.1 in
-    let r = (out_rows c.requires.1.opened _ (omega (arith, c.requires.0)) c.rows.ensures c.get-own.ensures c.and-left.ensures) in
-    let m = member_in _ r (walk_in inv.walk c.first-a.ensures) in
+    let r = (out_rows c.requires.1.opened _ (omega (arith, c.requires.0)) c.rows.ensures c.get-own.ensures (started c.into_iter-a-iterator.ensures.into_iter_gives c.bitand.ensures)) in
+    let m = member_in _ r (walk_in inv.walk c.in-Some.ensures.steps.0) in
     let e = eqb-true _ _ (split m.1).1 in (
       c.put.ensures.frame.len ∙ c.loop-broad.invariant.0,
-      out_next o _ _ inv c.first-a.ensures c.but_first-left.ensures
-          (out_turn o _ _ _ _ _ _ _ _ _ _ m.0 (split m.1).0 e (out_wide o _ r inv) (rows_at c.get.ensures (out_own o _ r inv c.first-a.ensures m.0 (split m.1).0 e)) (c.broader-broad.ensures _ _ o) c.reach.ensures c.and.ensures c.and-next.ensures c.union.ensures c.or-all.ensures)
+      out_next o _ _ inv c.in-Some.ensures.steps.0 c.in-Some.ensures.steps.1
+          (out_turn o _ _ _ _ _ _ _ _ _ _ m.0 (split m.1).0 e (out_wide o _ r inv) (rows_at c.get.ensures (out_own o _ r inv c.in-Some.ensures.steps.0 m.0 (split m.1).0 e)) (c.broader-broad.ensures _ _ o) c.reach.ensures c.bitand.ensures c.bitand-next.ensures c.union.ensures c.bitor-all.ensures)
           c.put.ensures,
     )
 
@@ -65,4 +60,4 @@ shape_of-w c = c.loop-broad.invariant.0
 
 pub returns : goal.returns
 returns c =
-    out_end c.requires.1.opened _ (out_rows c.requires.1.opened _ (omega (arith, c.requires.0)) c.rows.ensures c.get-own.ensures c.and-left.ensures) (sym c.some.ensures ∙ c.loop-broad-test.false) c.loop-broad.invariant.1
+    out_end c.requires.1.opened _ (out_rows c.requires.1.opened _ (omega (arith, c.requires.0)) c.rows.ensures c.get-own.ensures (started c.into_iter-a-iterator.ensures.into_iter_gives c.bitand.ensures)) (sym c.has_any.ensures ∙ c.loop-broad-test.false) c.loop-broad.invariant.1

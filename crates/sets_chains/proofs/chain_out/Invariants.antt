@@ -8,7 +8,7 @@ use Rattle.sets_chains.specs.Chained.{OutTurning}
 use Rattle.sets_chains.proofs.chain_out.Given as goal
 
 abbrev pub invariant-loop-broad : goal.invariant-loop-broad
-invariant-loop-broad l = (length l.w ≡ length l.initial.w) × OutTurning (table_in l.t l.n) l.n l.q l.initial.left l.initial.w l.left l.w
+invariant-loop-broad l = (length l.w ≡ length l.initial.w) × OutTurning (table_in l.t l.n) l.n l.q l.initial.a-iterator.left l.initial.w l.a-iterator.left l.w
 
 abbrev pub decreases-loop-broad : goal.decreases-loop-broad
-decreases-loop-broad l = ROWS - next l.left
+decreases-loop-broad l = ROWS - next l.a-iterator.left

@@ -17,39 +17,29 @@ pub rows-left-requires : goal.rows-left-requires
 rows-left-requires c =
     let a = c.requires.0.opened.space in omega arith
 
-pub loop-left-init : goal.loop-left-init
-loop-left-init c = make_begin _ c.prepare.ensures.ready
-
-pub first-a-requires : goal.first-a-requires
-first-a-requires c = sym c.some.ensures ∙ c.loop-left-test.true
-
-pub but_first-left-requires : goal.but_first-left-requires
-but_first-left-requires c = sym c.some.ensures ∙ c.loop-left-test.true
+pub loop-a-init : goal.loop-a-init
+loop-a-init c = make_begin _ c.prepare.ensures.ready
 
 pub make-requires : goal.make-requires
 unfolding decode makes
 make-requires c =
     let pre = c.requires in
-    let inv = c.loop-left.invariant in
-    let rows = rows_at c.rows-left.ensures (says_rows pre.0.opened.known.tested.marked.available) in
-    let m = member_in _ rows (walk_in inv.walk c.first-a.ensures) in
+    let inv = c.loop-a.invariant in
+    let rows = rows_at (c.into_iter-a-iterator.ensures.into_iter_gives ∙ c.rows.ensures) (says_rows pre.0.opened.known.tested.marked.available) in
+    let m = member_in _ rows (walk_in inv.walk c.in-Some.ensures.steps.0) in
     (record { low = m.0; makes = m.1 }, inv.ready)
 
-pub loop-left-smaller : goal.loop-left-smaller
-loop-left-smaller c =
-    walk_less c.first-a.ensures c.but_first-left.ensures
-
-pub loop-left-preserved : goal.loop-left-preserved
-loop-left-preserved c =
-    make_turn c.loop-left.invariant c.first-a.ensures c.but_first-left.ensures c.make.ensures
+pub loop-a-preserved : goal.loop-a-preserved
+loop-a-preserved c =
+    make_turn c.loop-a.invariant c.in-Some.ensures.steps.0 c.in-Some.ensures.steps.1 c.make.ensures
 
 pub shape_of-w : goal.shape_of-w
 shape_of-w c =
-    c.loop-left.invariant.frame.len ∙ c.prepare.ensures.frame.len
+    c.loop-a.invariant.frame.len ∙ c.prepare.ensures.frame.len
 
 pub returns : goal.returns
 unfolding makes
 returns c =
     let pre = c.requires in
-    let rows = rows_at c.rows-left.ensures (says_rows pre.0.opened.known.tested.marked.available) in
-    make_end rows (sym c.some.ensures ∙ c.loop-left-test.false) c.prepare.ensures.frame c.loop-left.invariant
+    let rows = rows_at (c.into_iter-a-iterator.ensures.into_iter_gives ∙ c.rows.ensures) (says_rows pre.0.opened.known.tested.marked.available) in
+    make_end rows c.in-None.ensures.steps.0 c.prepare.ensures.frame c.loop-a.invariant

@@ -36,6 +36,6 @@ returns c =
     let o = c.requires.1.given.opened in
     let f = given_few c.requires.1.given in
     made_one (omega (arith, c.requires.0.low, f))
-    (alone_to _ _ o c.requires.0.low c.requires.0.makes c.requires.1.device (grid_at c.requires.1.after.rows c.requires.0.low c.get.ensures) c.reach-reach.ensures c.and-at.ensures)
-    (alone_by _ _ o c.requires.0.low c.requires.0.makes c.requires.1.device _ (grid_at c.requires.1.after.visibles c.requires.0.low c.get-2.ensures) c.reach-reach.ensures c.hears.ensures c.and-both.ensures c.and-visible.ensures)
+    (alone_to _ _ o c.requires.0.low c.requires.0.makes c.requires.1.device (grid_at c.requires.1.after.rows c.requires.0.low c.get.ensures) c.reach-reach.ensures c.bitand-at.ensures)
+    (alone_by _ _ o c.requires.0.low c.requires.0.makes c.requires.1.device _ (grid_at c.requires.1.after.visibles c.requires.0.low c.get-2.ensures) c.reach-reach.ensures c.hears.ensures c.bitand-both.ensures c.bitand-visible.ensures)
     c.put.ensures c.put-2.ensures

@@ -14,17 +14,17 @@ bit-requires c = omega (arith, c.requires.0.low, given_few c.requires.1.given)
 
 pub available_to-at-requires : goal.available_to-at-requires
 available_to-at-requires c =
-    (record { low = c.requires.0.low; ends = chain_rows _ _ _ _ c.requires.1.device c.requires.0.low (rows_at c.get.ensures ((c.requires.1.chained refl).outs.row _ c.requires.0.low c.requires.0.makes)) c.bit.ensures c.or-chain.ensures }, c.requires.1.given, c.requires.1.after)
+    (record { low = c.requires.0.low; ends = chain_rows _ _ _ _ c.requires.1.device c.requires.0.low (rows_at c.get.ensures ((c.requires.1.chained refl).outs.row _ c.requires.0.low c.requires.0.makes)) c.bit.ensures c.bitor-chain.ensures }, c.requires.1.given, c.requires.1.after)
 
 pub loop-q-init : goal.loop-q-init
 loop-q-init c = (omega arith, omega arith, wide_none _ _ _ c.none-visible.ensures)
 
 pub visible_by-requires : goal.visible_by-requires
 visible_by-requires c =
-    (record { low = c.requires.0.low; ends = chain_rows _ _ _ _ c.requires.1.device c.requires.0.low (rows_at c.get.ensures ((c.requires.1.chained refl).outs.row _ c.requires.0.low c.requires.0.makes)) c.bit.ensures c.or-chain.ensures }, omega (arith, c.loop-q-test.true), record { given = c.requires.1.given; after = c.requires.1.after; ins = (c.requires.1.chained refl).ins })
+    (record { low = c.requires.0.low; ends = chain_rows _ _ _ _ c.requires.1.device c.requires.0.low (rows_at c.get.ensures ((c.requires.1.chained refl).outs.row _ c.requires.0.low c.requires.0.makes)) c.bit.ensures c.bitor-chain.ensures }, omega (arith, c.loop-q-test.true), record { given = c.requires.1.given; after = c.requires.1.after; ins = (c.requires.1.chained refl).ins })
 
 pub loop-q-preserved : goal.loop-q-preserved
-loop-q-preserved c = (omega (arith, c.loop-q.invariant.0), omega (arith, c.loop-q-test.true), wide_more _ _ _ _ c.loop-q.invariant.0 c.loop-q.invariant.2 c.visible_by.ensures c.or-visible.ensures)
+loop-q-preserved c = (omega (arith, c.loop-q.invariant.0), omega (arith, c.loop-q-test.true), wide_more _ _ _ _ c.loop-q.invariant.0 c.loop-q.invariant.2 c.visible_by.ensures c.bitor-visible.ensures)
 
 pub put-requires : goal.put-requires
 put-requires c =

@@ -21,4 +21,4 @@ union-ends-requires c =
 
 pub returns : goal.returns
 returns c =
-    wide_rows c.requires.2.given.opened _ _ _ _ _ _ _ _ _ _ _ _ _ _ (omega (arith, c.requires.1)) c.requires.2.after c.requires.2.ins c.requires.0.ends c.sharing-domain.ensures c.get.ensures (c.broader.ensures _ _ c.requires.2.given.opened) c.or-wide.ensures c.and-inside.ensures c.and.ensures c.union-made.ensures c.and-met.ensures c.union-ends.ensures c.or.ensures c.and-2.ensures
+    wide_rows c.requires.2.given.opened _ _ _ _ _ _ _ _ _ _ _ _ _ _ (omega (arith, c.requires.1)) c.requires.2.after c.requires.2.ins c.requires.0.ends c.sharing-domain.ensures c.get.ensures (c.broader.ensures _ _ c.requires.2.given.opened) c.bitor-wide.ensures c.bitand-inside.ensures c.bitand.ensures c.union-made.ensures c.bitand-met.ensures c.union-ends.ensures c.bitor.ensures c.bitand-2.ensures

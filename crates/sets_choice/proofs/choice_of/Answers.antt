@@ -9,7 +9,7 @@ use Rattle.sets_choice.proofs.choice_of.Goals as goal
 pub returns-then-not-some : goal.returns-then-not-some
 returns-then-not-some c =
     let pre = c.requires in
-    let w = written_some _ _ _ pre.1.given.opened.rows (given_few pre.1.given) c.writers_before-writers.ensures c.some.ensures in
+    let w = written_some _ _ _ pre.1.given.opened.rows (given_few pre.1.given) c.writers_before-writers.ensures c.has_any.ensures in
     unwritten _ _ _ w c.if-not-some.true
 
 pub first_candidate-requires : goal.first_candidate-requires
@@ -26,5 +26,5 @@ pub returns : goal.returns
 unfolding decode
 returns c =
     let pre = c.requires in
-    let w = written_some _ _ _ pre.1.given.opened.rows (given_few pre.1.given) c.writers_before-writers.ensures c.some.ensures in
+    let w = written_some _ _ _ pre.1.given.opened.rows (given_few pre.1.given) c.writers_before-writers.ensures c.has_any.ensures in
     found _ _ _ w c.if-not-some.false _ c.first_candidate.ensures.0

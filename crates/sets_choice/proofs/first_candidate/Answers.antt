@@ -8,34 +8,28 @@ use Rattle.sets_choice.proofs.first_candidate.Goals as goal
 pub loop-blank-init : goal.loop-blank-init
 loop-blank-init c = search_begin _ _ (candidate_off c.requires)
 
-pub first-source-requires : goal.first-source-requires
-first-source-requires c = sym c.some.ensures ∙ c.loop-blank-test.true
-
-pub but_first-left-requires : goal.but_first-left-requires
-but_first-left-requires c = sym c.some.ensures ∙ c.loop-blank-test.true
-
 pub is_candidate-requires : goal.is_candidate-requires
 is_candidate-requires c =
-    (walk_in c.loop-blank.invariant.0 c.first-source.ensures, c.requires)
+    (walk_in c.loop-blank.invariant.0 c.in-Some.ensures.steps.0, c.requires)
 
 pub returns-then-is_candidate : goal.returns-then-is_candidate
 returns-then-is_candidate c =
     let pre = c.requires in
-    let m = member_in _ pre.earlier (walk_in c.loop-blank.invariant.0 c.first-source.ensures) in
+    let m = member_in _ pre.earlier (walk_in c.loop-blank.invariant.0 c.in-Some.ensures.steps.0) in
     let l = m.0 in
     let hit = candidate_on pre _ _ l c.is_candidate.ensures c.if-is_candidate.true in
-    (candidate_first pre _ l (search_found _ _ (candidate_off pre) c.loop-blank.invariant c.first-source.ensures hit) hit, omega (arith, l))
+    (candidate_first pre _ l (search_found _ _ (candidate_off pre) c.loop-blank.invariant c.in-Some.ensures.steps.0 hit) hit, omega (arith, l))
 
 pub loop-blank-smaller : goal.loop-blank-smaller
-loop-blank-smaller c = walk_less c.first-source.ensures c.but_first-left.ensures
+loop-blank-smaller c = walk_less c.in-Some.ensures.steps.0 c.in-Some.ensures.steps.1
 
 pub loop-blank-preserved : goal.loop-blank-preserved
 loop-blank-preserved c =
     let pre = c.requires in
-    search_turn _ _ (candidate_off pre) c.loop-blank.invariant c.first-source.ensures c.but_first-left.ensures
+    search_turn _ _ (candidate_off pre) c.loop-blank.invariant c.in-Some.ensures.steps.0 c.in-Some.ensures.steps.1
     (candidate_not pre _ _ c.is_candidate.ensures c.if-is_candidate.false)
 
 pub returns : goal.returns
 returns c =
     let pre = c.requires in
-    (candidate_none pre (search_end _ _ (candidate_off pre) _ (sym c.some.ensures ∙ c.loop-blank-test.false) c.loop-blank.invariant.1), omega arith)
+    (candidate_none pre (search_end _ _ (candidate_off pre) _ (sym c.has_any.ensures ∙ c.loop-blank-test.false) c.loop-blank.invariant.1), omega arith)

@@ -9,7 +9,7 @@ use Rattle.sets_choice.specs.Choosing.{candidate_in}
 use Rattle.sets_choice.proofs.first_candidate.Given as goal
 
 abbrev pub invariant-loop-blank : goal.invariant-loop-blank
-invariant-loop-blank l = Walk l.blank.writers l.left × (least (next l.left) (candidate_in (table_in l.t l.n) l.n l.blank.y) ≡ next l.left)
+invariant-loop-blank l = Walk l.blank.writers l.source-iterator.left × (least (next l.source-iterator.left) (candidate_in (table_in l.t l.n) l.n l.blank.y) ≡ next l.source-iterator.left)
 
 abbrev pub decreases-loop-blank : goal.decreases-loop-blank
-decreases-loop-blank l = ROWS - next l.left
+decreases-loop-blank l = ROWS - next l.source-iterator.left

@@ -1,3 +1,4 @@
+use Rattle.sets_of_rows.specs.Rows.{started}
 use mathlib.Core.Path.{sym, ◌∙◌}
 use native.Mathlib.Omega.{arith}
 use Rattle.sets_of_rows.specs.Walk.{walk_less, walk_in, search_begin, search_turn, search_end}
@@ -16,8 +17,8 @@ get-requires c =
 pub returns-then-some : goal.returns-then-some
 returns-then-some c =
     let pre = c.requires in
-    let later = later_rows pre.1 pre.0 c.get.ensures c.and.ensures in
-    sym (later_hit pre.1 pre.0 later (sym c.some.ensures ∙ c.if-some.true))
+    let later = later_rows pre.1 pre.0 c.get.ensures c.bitand.ensures in
+    sym (later_hit pre.1 pre.0 later (sym c.has_any.ensures ∙ c.if-some.true))
 
 pub get-requires-2 : goal.get-requires-2
 get-requires-2 c =
@@ -30,49 +31,43 @@ get-requires-2 c =
 pub loop-blank-init : goal.loop-blank-init
 loop-blank-init c =
     let pre = c.requires in
-    let later = later_rows pre.1 pre.0 c.get.ensures c.and.ensures in
-    let none = sym c.some.ensures ∙ c.if-some.false in
-    let rows = some_rows pre.1 pre.0 c.get-2.ensures c.and-left.ensures in
+    let later = later_rows pre.1 pre.0 c.get.ensures c.bitand.ensures in
+    let none = sym c.has_any.ensures ∙ c.if-some.false in
+    let rows = some_rows pre.1 pre.0 c.get-2.ensures (started c.into_iter-z-iterator.ensures.into_iter_gives c.bitand.ensures) in
     search_begin _ _ (between_off pre.1 pre.0 later none rows)
-
-pub first-z-requires : goal.first-z-requires
-first-z-requires c = sym c.some-in-loop-blank.ensures ∙ c.loop-blank-test.true
-
-pub but_first-left-requires : goal.but_first-left-requires
-but_first-left-requires c = sym c.some-in-loop-blank.ensures ∙ c.loop-blank-test.true
 
 pub overwrites-requires : goal.overwrites-requires
 overwrites-requires c =
     let pre = c.requires in
-    let rows = some_rows pre.1 pre.0 c.get-2.ensures c.and-left.ensures in
-    let m = member_in _ rows (walk_in c.loop-blank.invariant.0 c.first-z.ensures) in
+    let rows = some_rows pre.1 pre.0 c.get-2.ensures (started c.into_iter-z-iterator.ensures.into_iter_gives c.bitand.ensures) in
+    let m = member_in _ rows (walk_in c.loop-blank.invariant.0 c.in-Some.ensures.steps.0) in
     let p = pre.1 in
     (record { first = pre.0; second = m.0; third = p.reader.low }, p.judged)
 
 pub returns-then-overwrites-gt0 : goal.returns-then-overwrites-gt0
 returns-then-overwrites-gt0 c =
     let pre = c.requires in
-    let rows = some_rows pre.1 pre.0 c.get-2.ensures c.and-left.ensures in
-    let m = member_in _ rows (walk_in c.loop-blank.invariant.0 c.first-z.ensures) in
+    let rows = some_rows pre.1 pre.0 c.get-2.ensures (started c.into_iter-z-iterator.ensures.into_iter_gives c.bitand.ensures) in
+    let m = member_in _ rows (walk_in c.loop-blank.invariant.0 c.in-Some.ensures.steps.0) in
     sym (between_hit pre.1 pre.0 _ _ m.0 m.1 c.overwrites.ensures c.if-overwrites-gt0.true)
 
 pub loop-blank-smaller : goal.loop-blank-smaller
-loop-blank-smaller c = walk_less c.first-z.ensures c.but_first-left.ensures
+loop-blank-smaller c = walk_less c.in-Some.ensures.steps.0 c.in-Some.ensures.steps.1
 
 pub loop-blank-preserved : goal.loop-blank-preserved
 loop-blank-preserved c =
     let pre = c.requires in
-    let later = later_rows pre.1 pre.0 c.get.ensures c.and.ensures in
-    let none = sym c.some.ensures ∙ c.if-some.false in
-    let rows = some_rows pre.1 pre.0 c.get-2.ensures c.and-left.ensures in
-    let m = member_in _ rows (walk_in c.loop-blank.invariant.0 c.first-z.ensures) in
+    let later = later_rows pre.1 pre.0 c.get.ensures c.bitand.ensures in
+    let none = sym c.has_any.ensures ∙ c.if-some.false in
+    let rows = some_rows pre.1 pre.0 c.get-2.ensures (started c.into_iter-z-iterator.ensures.into_iter_gives c.bitand.ensures) in
+    let m = member_in _ rows (walk_in c.loop-blank.invariant.0 c.in-Some.ensures.steps.0) in
     let clear = between_clear pre.1 pre.0 later none _ _ m.0 c.overwrites.ensures c.if-overwrites-gt0.false in
-    search_turn _ _ (between_off pre.1 pre.0 later none rows) c.loop-blank.invariant c.first-z.ensures c.but_first-left.ensures clear
+    search_turn _ _ (between_off pre.1 pre.0 later none rows) c.loop-blank.invariant c.in-Some.ensures.steps.0 c.in-Some.ensures.steps.1 clear
 
 pub returns : goal.returns
 returns c =
     let pre = c.requires in
-    let later = later_rows pre.1 pre.0 c.get.ensures c.and.ensures in
-    let none = sym c.some.ensures ∙ c.if-some.false in
-    let rows = some_rows pre.1 pre.0 c.get-2.ensures c.and-left.ensures in
-    sym (between_none pre.1 pre.0 (search_end _ _ (between_off pre.1 pre.0 later none rows) _ (sym c.some-in-loop-blank.ensures ∙ c.loop-blank-test.false) c.loop-blank.invariant.1))
+    let later = later_rows pre.1 pre.0 c.get.ensures c.bitand.ensures in
+    let none = sym c.has_any.ensures ∙ c.if-some.false in
+    let rows = some_rows pre.1 pre.0 c.get-2.ensures (started c.into_iter-z-iterator.ensures.into_iter_gives c.bitand.ensures) in
+    sym (between_none pre.1 pre.0 (search_end _ _ (between_off pre.1 pre.0 later none rows) _ (sym c.has_any-in-loop-blank.ensures ∙ c.loop-blank-test.false) c.loop-blank.invariant.1))

@@ -9,7 +9,7 @@ use Rattle.sets_choice.specs.Choosing.{between_in}
 use Rattle.sets_choice.proofs.some_between.Given as goal
 
 abbrev pub invariant-loop-blank : goal.invariant-loop-blank
-invariant-loop-blank l = Walk l.initial.left l.left × (least (next l.left) (between_in (table_in l.t l.n) l.n l.blank.y l.source) ≡ next l.left)
+invariant-loop-blank l = Walk l.initial.z-iterator.left l.z-iterator.left × (least (next l.z-iterator.left) (between_in (table_in l.t l.n) l.n l.blank.y l.source) ≡ next l.z-iterator.left)
 
 abbrev pub decreases-loop-blank : goal.decreases-loop-blank
-decreases-loop-blank l = ROWS - next l.left
+decreases-loop-blank l = ROWS - next l.z-iterator.left

@@ -6,8 +6,5 @@ use Rattle.sets_of_rows.specs.Sift.{Sifted}
 use Rattle.sets_choice.specs.Choosing.{in_column}
 use Rattle.sets_choice.proofs.writers_before.Given as goal
 
-abbrev pub invariant-loop-left : goal.invariant-loop-left
-invariant-loop-left l = Walk l.initial.left l.left × Sifted l.initial.left (in_column l.w l.y) l.all (next l.left)
-
-abbrev pub decreases-loop-left : goal.decreases-loop-left
-decreases-loop-left l = ROWS - next l.left
+abbrev pub invariant-loop-z : goal.invariant-loop-z
+invariant-loop-z l = Walk l.initial.z-iterator.left l.z-iterator.left × Sifted l.initial.z-iterator.left (in_column l.w l.y) l.all (next l.z-iterator.left)

@@ -9,32 +9,26 @@ use Rattle.sets_closure.proofs.is_synced.Goals as goal
 pub loop-k-init : goal.loop-k-init
 loop-k-init c = search_begin _ _ (λ i e. synced_off _ _ _ i e)
 
-pub first-a-requires : goal.first-a-requires
-first-a-requires c = sym c.some.ensures ∙ c.loop-k-test.true
-
-pub but_first-left-requires : goal.but_first-left-requires
-but_first-left-requires c = sym c.some.ensures ∙ c.loop-k-test.true
-
 pub get-requires : goal.get-requires
 get-requires c =
-    let a = c.requires.0.room in let b = c.first-a.ensures.bound in omega arith
+    let a = c.requires.0.room in let b = c.in-Some.ensures.steps.0.bound in omega arith
 
 pub returns-then-some : goal.returns-then-some
 returns-then-some c =
-    let m = walk_in c.loop-k.invariant.0 c.first-a.ensures in
+    let m = walk_in c.loop-k.invariant.0 c.in-Some.ensures.steps.0 in
     synced_found _ _ _ _ (c.requires.2 _ m)
-    (sym (synced_at _ _ _ _ _ _ _ (given_few c.requires.0) m (grid_at c.requires.1 (c.requires.2 _ m) c.get.ensures) c.and.ensures c.some-in-loop-k.ensures) ∙ c.if-some.true)
+    (sym (synced_at _ _ _ _ _ _ _ (given_few c.requires.0) m (grid_at c.requires.1 (c.requires.2 _ m) c.get.ensures) c.bitand.ensures c.has_any-in-loop-k.ensures) ∙ c.if-some.true)
 
 pub loop-k-smaller : goal.loop-k-smaller
 loop-k-smaller c =
-    walk_less c.first-a.ensures c.but_first-left.ensures
+    walk_less c.in-Some.ensures.steps.0 c.in-Some.ensures.steps.1
 
 pub loop-k-preserved : goal.loop-k-preserved
 loop-k-preserved c =
-    let m = walk_in c.loop-k.invariant.0 c.first-a.ensures in
-    search_turn _ _ (λ i e. synced_off _ _ _ i e) c.loop-k.invariant c.first-a.ensures c.but_first-left.ensures
-    (sym (synced_at _ _ _ _ _ _ _ (given_few c.requires.0) m (grid_at c.requires.1 (c.requires.2 _ m) c.get.ensures) c.and.ensures c.some-in-loop-k.ensures) ∙ c.if-some.false)
+    let m = walk_in c.loop-k.invariant.0 c.in-Some.ensures.steps.0 in
+    search_turn _ _ (λ i e. synced_off _ _ _ i e) c.loop-k.invariant c.in-Some.ensures.steps.0 c.in-Some.ensures.steps.1
+    (sym (synced_at _ _ _ _ _ _ _ (given_few c.requires.0) m (grid_at c.requires.1 (c.requires.2 _ m) c.get.ensures) c.bitand.ensures c.has_any-in-loop-k.ensures) ∙ c.if-some.false)
 
 pub returns : goal.returns
 returns c =
-    synced_end _ _ _ (given_few c.requires.0) (search_end _ _ (λ i e. synced_off _ _ _ i e) _ (sym c.some.ensures ∙ c.loop-k-test.false) c.loop-k.invariant.1)
+    synced_end _ _ _ (given_few c.requires.0) (search_end _ _ (λ i e. synced_off _ _ _ i e) _ (sym c.has_any.ensures ∙ c.loop-k-test.false) c.loop-k.invariant.1)

@@ -12,7 +12,7 @@ get-requires c = let a = c.requires.1.space in let b = c.loop-m-test.true in ome
 
 pub loop-m-preserved : goal.loop-m-preserved
 loop-m-preserved c =
-    (search rules, common_more _ _ _ _ _ _ _ _ c.loop-m.invariant.1 c.holds-held.ensures c.get.ensures c.some-some.ensures c.shared-common.ensures)
+    (search rules, common_more _ _ _ _ _ _ _ _ c.loop-m.invariant.1 c.holds-held.ensures c.get.ensures c.has_any-some.ensures c.shared-common.ensures)
 
 pub returns : goal.returns
 returns c = let e : c.loop-m.m ≡ 16 = omega arith in widest_is c.requires.1 _ _ (rw e at c.loop-m.invariant.1)

@@ -19,8 +19,8 @@ get-requires c =
 
 pub loop-q-preserved : goal.loop-q-preserved
 loop-q-preserved c =
-    (search rules, meets_more c.requires.1 _ _ _ c.loop-q.invariant.1 c.holds_class-b.ensures c.get.ensures c.only_if.ensures c.or-a.ensures)
+    (search rules, meets_more c.requires.1 _ _ _ c.loop-q.invariant.1 c.holds_class-b.ensures c.get.ensures c.only_if.ensures c.bitor-a.ensures)
 
 pub returns : goal.returns
 returns c =
-    let e : c.loop-q.q ≡ 4 = omega arith in meets_rows c.requires.1 _ _ _ _ _ c.requires.0 c.of_classes-own.ensures c.rows.ensures c.and-a.ensures (rw e at c.loop-q.invariant.1)
+    let e : c.loop-q.q ≡ 4 = omega arith in meets_rows c.requires.1 _ _ _ _ _ c.requires.0 c.of_classes-own.ensures c.rows.ensures c.bitand-a.ensures (rw e at c.loop-q.invariant.1)

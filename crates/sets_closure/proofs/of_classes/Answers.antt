@@ -29,4 +29,4 @@ rows-requires-4 c =
 
 pub returns : goal.returns
 returns c =
-    concerns_rows c.requires.2 _ _ _ _ _ _ _ _ _ _ _ _ _ _ _ _ c.requires.0.some c.requires.1 c.holding-holds.ensures c.meeting-meets.ensures c.rows.ensures c.and-releases.ensures c.rows-2.ensures c.and-acquires.ensures c.or.ensures c.or-2.ensures c.of_classes.ensures c.or-3.ensures c.rows-3.ensures c.and.ensures c.rows-4.ensures c.and-2.ensures
+    concerns_rows c.requires.2 _ _ _ _ _ _ _ _ _ _ _ _ _ _ _ _ c.requires.0.some c.requires.1 c.holding-holds.ensures c.meeting-meets.ensures c.rows.ensures c.bitand-releases.ensures c.rows-2.ensures c.bitand-acquires.ensures c.bitor.ensures c.bitor-2.ensures c.of_classes.ensures c.bitor-3.ensures c.rows-3.ensures c.bitand.ensures c.rows-4.ensures c.bitand-2.ensures

@@ -20,4 +20,4 @@ clear-requires c =
 
 pub returns : goal.returns
 returns c =
-    pass_none c.requires _ c.get.ensures (sym c.some.ensures ∙ c.if-some.false) c.clear.ensures
+    pass_none c.requires _ c.get.ensures (sym c.has_any.ensures ∙ c.if-some.false) c.clear.ensures

@@ -14,31 +14,21 @@ start-name-requires c = let a = few c.requires.1 in omega (arith, c.requires.0)
 pub get-left-requires : goal.get-left-requires
 get-left-requires c = let a = c.requires.1.space in omega arith
 
-pub loop-left-init : goal.loop-left-init
-loop-left-init c = sift_begin _ _ _ c.none-all.ensures
-
-pub first-d-requires : goal.first-d-requires
-first-d-requires c = sym c.some.ensures ∙ c.loop-left-test.true
-
-pub but_first-left-requires : goal.but_first-left-requires
-but_first-left-requires c = sym c.some.ensures ∙ c.loop-left-test.true
+pub loop-d-init : goal.loop-d-init
+loop-d-init c = sift_begin _ _ _ c.none-all.ensures
 
 pub start-requires : goal.start-requires
-start-requires c = c.first-d.ensures.bound
+start-requires c = c.in-Some.ensures.steps.0.bound
 
 pub bit-requires : goal.bit-requires
-bit-requires c = c.first-d.ensures.bound
+bit-requires c = c.in-Some.ensures.steps.0.bound
 
-pub loop-left-smaller : goal.loop-left-smaller
-loop-left-smaller c =
-    walk_less c.first-d.ensures c.but_first-left.ensures
-
-pub loop-left-preserved : goal.loop-left-preserved
+pub loop-d-preserved : goal.loop-d-preserved
 unfolding decode
-loop-left-preserved c =
-    sift_turn _ _ _ c.loop-left.invariant c.first-d.ensures c.but_first-left.ensures (start_is _ _ _ _ _ c.start.ensures.0 c.start-name.ensures.0) (one_more _ _ _ _ _ _ c.bit.ensures c.only_if.ensures c.or-all.ensures)
+loop-d-preserved c =
+    sift_turn _ _ _ c.loop-d.invariant c.in-Some.ensures.steps.0 c.in-Some.ensures.steps.1 (start_is _ _ _ _ _ c.start.ensures.0 c.start-name.ensures.0) (one_more _ _ _ _ _ _ c.bit.ensures c.only_if.ensures c.bitor-all.ensures)
 
 pub returns : goal.returns
 unfolding decode
 returns c =
-    instance_rows c.requires.1 _ _ _ c.get-left.ensures (sift_end _ _ _ _ (sym c.some.ensures ∙ c.loop-left-test.false) c.loop-left.invariant.1)
+    instance_rows c.requires.1 _ _ _ c.get-left.ensures (sift_end _ _ _ _ c.in-None.ensures.steps.0 c.loop-d.invariant.1)

@@ -7,8 +7,5 @@ use Rattle.sets_of_rows.specs.Sift.{Sifted}
 use Rattle.sets_control.specs.Passed.{same_start}
 use Rattle.sets_control.proofs.instance.Given as goal
 
-abbrev pub invariant-loop-left : goal.invariant-loop-left
-invariant-loop-left l = Walk l.initial.left l.left × Sifted l.initial.left (same_start (table_in l.t l.n) l.c) l.all (next l.left)
-
-abbrev pub decreases-loop-left : goal.decreases-loop-left
-decreases-loop-left l = ROWS - next l.left
+abbrev pub invariant-loop-d : goal.invariant-loop-d
+invariant-loop-d l = Walk l.initial.d-iterator.left l.d-iterator.left × Sifted l.initial.d-iterator.left (same_start (table_in l.t l.n) l.c) l.all (next l.d-iterator.left)

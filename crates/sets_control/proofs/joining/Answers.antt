@@ -13,11 +13,11 @@ sharing-share-requires c =
     let o = c.requires.2 in
     (c.requires.0, (let e = o.fit.executed _ (there o _ c.requires.0) c.requires.1 in let f = c.class.ensures in omega arith), o)
 
-pub drop-requires : goal.drop-requires
-drop-requires c =
+pub without-requires : goal.without-requires
+without-requires c =
     let a = few c.requires.2 in omega (arith, c.requires.0)
 
 pub returns : goal.returns
 unfolding decode
 returns c =
-    joining_rows _ _ _ _ _ _ _ c.requires.1 c.class.ensures c.sharing-share.ensures c.instance.ensures c.and.ensures c.drop.ensures
+    joining_rows _ _ _ _ _ _ _ c.requires.1 c.class.ensures c.sharing-share.ensures c.instance.ensures c.bitand.ensures c.without.ensures

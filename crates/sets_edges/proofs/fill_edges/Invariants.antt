@@ -8,8 +8,5 @@ use Rattle.sets_of_rows.specs.First.{next}
 use Rattle.sets_edges.specs.Edges.{Edging}
 use Rattle.sets_edges.proofs.fill_edges.Given as goal
 
-abbrev pub invariant-loop-left : goal.invariant-loop-left
-invariant-loop-left l = (length l.w ≡ length l.initial.w) × Edging (table_in l.t l.n) (source_in l.src) l.n l.initial.left l.left l.initial.w l.w
-
-abbrev pub decreases-loop-left : goal.decreases-loop-left
-decreases-loop-left l = ROWS - next l.left
+abbrev pub invariant-loop-y : goal.invariant-loop-y
+invariant-loop-y l = (length l.w ≡ length l.initial.w) × Edging (table_in l.t l.n) (source_in l.src) l.n l.initial.y-iterator.left l.y-iterator.left l.initial.w l.w

@@ -13,7 +13,7 @@ loop-x-preserved c =
     let put = c.put.ensures in
     let x_below = c.loop-x-test.true in
     let few_are = c.requires.0 in
-    (search rules, put.frame.len ∙ inv.1, orders_turn _ _ _ (omega (arith, x_below, few_are)) inv.2 c.get.ensures c.get-in-loop-x.ensures c.or-to.ensures put)
+    (search rules, put.frame.len ∙ inv.1, orders_turn _ _ _ (omega (arith, x_below, few_are)) inv.2 c.get.ensures c.get-in-loop-x.ensures c.bitor-to.ensures put)
 
 pub returns : goal.returns
 returns c =

@@ -3,11 +3,11 @@ use Rattle.sets_happens.specs.Behind.{by_none, by_some}
 use Rattle.sets_happens.proofs.by_release.Goals as goal
 
 pub returns-then-not-some : goal.returns-then-not-some
-returns-then-not-some c = by_none _ _ _ _ (sym c.some.ensures ∙ c.if-not-some.true) c.none.ensures
+returns-then-not-some c = by_none _ _ _ _ (sym c.has_any.ensures ∙ c.if-not-some.true) c.none.ensures
 
 pub first-j-requires : goal.first-j-requires
-first-j-requires c = sym c.some.ensures ∙ c.if-not-some.false
+first-j-requires c = sym c.has_any.ensures ∙ c.if-not-some.false
 
 pub returns : goal.returns
 returns c =
-    by_some _ _ _ _ (sym c.some.ensures ∙ c.if-not-some.false) c.first-j.ensures c.bit.ensures c.get.ensures c.or.ensures
+    by_some _ _ _ _ (sym c.has_any.ensures ∙ c.if-not-some.false) c.first-j.ensures c.bit.ensures c.get.ensures c.bitor.ensures

@@ -8,4 +8,4 @@ returns-then-has c =
 
 pub returns : goal.returns
 returns c =
-    λ d ends q. from_other q _ _ _ c.requires.0 (sym c.has.ensures ∙ c.if-has.false) c.after.ensures c.and.ensures c.by_release.ensures
+    λ d ends q. from_other q _ _ _ c.requires.0 (sym c.has.ensures ∙ c.if-has.false) c.after.ensures c.bitand.ensures c.by_release.ensures

@@ -20,5 +20,5 @@ pub returns : goal.returns
 returns c =
     let o = c.requires.1.opened in
     let b = given_few c.requires.1 in
-    puts_three _ _ _ (omega (arith, c.requires.0)) c.after_available-from.ensures (to_visible_lem _ _ c.after_available-from.ensures (visible_set o c.rows.ensures) c.and-visible.ensures)
-    (to_available_lem _ _ c.after-after.ensures (available_set o c.rows-2.ensures) c.and-available.ensures) c.put.ensures c.put-2.ensures c.put-3.ensures
+    puts_three _ _ _ (omega (arith, c.requires.0)) c.after_available-from.ensures (to_visible_lem _ _ c.after_available-from.ensures (visible_set o c.rows.ensures) c.bitand-visible.ensures)
+    (to_available_lem _ _ c.after-after.ensures (available_set o c.rows-2.ensures) c.bitand-available.ensures) c.put.ensures c.put-2.ensures c.put-3.ensures

@@ -10,8 +10,5 @@ use Rattle.sets_of_rows.specs.First.{next}
 use Rattle.sets_happens.specs.Program.{behind, to_visible, to_available}
 use Rattle.sets_happens.proofs.put_availables.Given as goal
 
-abbrev pub invariant-loop-left : goal.invariant-loop-left
-invariant-loop-left l = Adding AVAILABLE_AT l.initial.left (λ a j. ltb j l.n and behind (table_in l.t l.n) a j) l.initial.w l.left l.w × Adding AVAILABLE_VISIBLE l.initial.left (λ a j. ltb j l.n and to_visible (table_in l.t l.n) a j) l.initial.w l.left l.w × Adding AVAILABLE_AVAILABLE l.initial.left (λ a j. ltb j l.n and to_available (table_in l.t l.n) a j) l.initial.w l.left l.w × Within AVAILABLE_AT VISIBLE_VISIBLE l.initial.w l.w
-
-abbrev pub decreases-loop-left : goal.decreases-loop-left
-decreases-loop-left l = ROWS - next l.left
+abbrev pub invariant-loop-a : goal.invariant-loop-a
+invariant-loop-a l = Adding AVAILABLE_AT l.initial.a-iterator.left (λ a j. ltb j l.n and behind (table_in l.t l.n) a j) l.initial.w l.a-iterator.left l.w × Adding AVAILABLE_VISIBLE l.initial.a-iterator.left (λ a j. ltb j l.n and to_visible (table_in l.t l.n) a j) l.initial.w l.a-iterator.left l.w × Adding AVAILABLE_AVAILABLE l.initial.a-iterator.left (λ a j. ltb j l.n and to_available (table_in l.t l.n) a j) l.initial.w l.a-iterator.left l.w × Within AVAILABLE_AT VISIBLE_VISIBLE l.initial.w l.w

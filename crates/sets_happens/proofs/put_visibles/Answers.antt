@@ -15,31 +15,25 @@ rows-visible-requires c = let a = c.requires.0.opened.space in omega arith
 pub loop-visible-init : goal.loop-visible-init
 loop-visible-init c = (add_begin _ _ _ _, within_refl _ _ _)
 
-pub first-v-requires : goal.first-v-requires
-first-v-requires c = sym c.some.ensures ∙ c.loop-visible-test.true
-
-pub but_first-left-requires : goal.but_first-left-requires
-but_first-left-requires c = sym c.some.ensures ∙ c.loop-visible-test.true
-
 pub after-requires : goal.after-requires
 after-requires c =
-    ((member_in _ (visible_set c.requires.0.opened c.rows-visible.ensures) (walk_in c.loop-visible.invariant.0.walk c.first-v.ensures)).0, c.requires.0.opened)
+    ((member_in _ (visible_set c.requires.0.opened c.rows-visible.ensures) (walk_in c.loop-visible.invariant.0.walk c.in-Some.ensures.steps.0)).0, c.requires.0.opened)
 
 pub put-requires : goal.put-requires
 put-requires c =
-    let a = c.requires.0.room in let b = c.first-v.ensures.bound in let d = c.loop-visible.invariant.1.len in omega arith
+    let a = c.requires.0.room in let b = c.in-Some.ensures.steps.0.bound in let d = c.loop-visible.invariant.1.len in omega arith
 
 pub loop-visible-smaller : goal.loop-visible-smaller
 loop-visible-smaller c =
-    walk_less c.first-v.ensures c.but_first-left.ensures
+    walk_less c.in-Some.ensures.steps.0 c.in-Some.ensures.steps.1
 
 pub loop-visible-preserved : goal.loop-visible-preserved
 loop-visible-preserved c =
     let inv = c.loop-visible.invariant in
-    let low = c.first-v.ensures in (
-      add_turn _ _ _ _ inv.0 low c.but_first-left.ensures
+    let low = c.in-Some.ensures.steps.0 in (
+      add_turn _ _ _ _ inv.0 low c.in-Some.ensures.steps.1
           (puts_adds (λ j. row_before _ _ _ _ inv.0 low j ∙ c.requires.1.is _ j low.bound)
-          (puts_cong (visible_to_lem _ _ c.after.ensures (visible_set c.requires.0.opened c.rows-visible.ensures) c.and-after.ensures).is (puts_put {base = VISIBLE_VISIBLE} _ c.put.ensures))),
+          (puts_cong (visible_to_lem _ _ c.after.ensures (visible_set c.requires.0.opened c.rows-visible.ensures) c.bitand-after.ensures).is (puts_put {base = VISIBLE_VISIBLE} _ c.put.ensures))),
       within_trans inv.1 (within_widen VISIBLE_VISIBLE HAPPENS_END (omega arith) (omega (arith, low.bound)) c.put.ensures.frame),
     )
 
@@ -50,6 +44,6 @@ pub returns : goal.returns
 returns c =
     let o = c.requires.0.opened.rows in
     record {
-      grid = made_grid _ _ (given_few c.requires.0) (visible_set c.requires.0.opened c.rows-visible.ensures) (λ i j l m. visibles_order _ o i j l m) _ (sym c.some.ensures ∙ c.loop-visible-test.false) c.loop-visible.invariant.0 c.requires.1;
+      grid = made_grid _ _ (given_few c.requires.0) (visible_set c.requires.0.opened c.rows-visible.ensures) (λ i j l m. visibles_order _ o i j l m) _ (sym c.has_any.ensures ∙ c.loop-visible-test.false) c.loop-visible.invariant.0 c.requires.1;
       frame = c.loop-visible.invariant.1;
     }

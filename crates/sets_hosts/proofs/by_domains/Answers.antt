@@ -18,4 +18,4 @@ union-requires c =
 
 pub returns : goal.returns
 returns c =
-    reached_rows _ _ _ _ _ _ _ _ _ c.rows.ensures c.has-host.ensures c.of_kind-makers.ensures c.get.ensures c.and-by.ensures c.union.ensures
+    reached_rows _ _ _ _ _ _ _ _ _ c.rows.ensures c.has-host.ensures c.of_kind-makers.ensures c.get.ensures c.bitand-by.ensures c.union.ensures

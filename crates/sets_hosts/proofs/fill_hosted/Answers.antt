@@ -22,49 +22,39 @@ pub rows-left-requires : goal.rows-left-requires
 rows-left-requires c =
     let a = c.requires.0.opened.space in omega arith
 
-pub loop-left-init : goal.loop-left-init
-loop-left-init c =
+pub loop-x-init : goal.loop-x-init
+loop-x-init c =
     (refl, fill_begin _ _ _ _ (let a = c.requires.0.room in let b = c.fill_met.ensures.frame.len in omega arith) c.clear.ensures)
-
-pub first-x-requires : goal.first-x-requires
-first-x-requires c = sym c.some.ensures ∙ c.loop-left-test.true
-
-pub but_first-left-requires : goal.but_first-left-requires
-but_first-left-requires c = sym c.some.ensures ∙ c.loop-left-test.true
 
 pub hosted_row-to-requires : goal.hosted_row-to-requires
 hosted_row-to-requires c =
     let a = c.requires.0.room in
     let b = c.fill_met.ensures.frame.len in
     let d = (within_cleared HOSTED HOSTED_END (omega arith) c.clear.ensures).len in
-    (c.first-x.ensures.bound, c.requires.0.opened.space, omega (arith, c.loop-left.invariant.0))
+    (c.in-Some.ensures.steps.0.bound, c.requires.0.opened.space, omega (arith, c.loop-x.invariant.0))
 
 pub put-requires : goal.put-requires
 put-requires c =
     let a = c.requires.0.room in
     let b = c.fill_met.ensures.frame.len in
     let d = (within_cleared HOSTED HOSTED_END (omega arith) c.clear.ensures).len in
-    omega (arith, c.loop-left.invariant.0, c.first-x.ensures.bound)
+    omega (arith, c.loop-x.invariant.0, c.in-Some.ensures.steps.0.bound)
 
-pub loop-left-smaller : goal.loop-left-smaller
-loop-left-smaller c =
-    walk_less c.first-x.ensures c.but_first-left.ensures
-
-pub loop-left-preserved : goal.loop-left-preserved
-loop-left-preserved c =
+pub loop-x-preserved : goal.loop-x-preserved
+loop-x-preserved c =
     let pre = c.requires in
-    let inv = c.loop-left.invariant in
-    let m = member_in _ (rows_at c.rows-left.ensures (says_rows pre.0.opened.known.tested.accesses.access)) (walk_in inv.1.walk c.first-x.ensures) in
+    let inv = c.loop-x.invariant in
+    let m = member_in _ (rows_at (c.into_iter-x-iterator.ensures.into_iter_gives ∙ c.rows.ensures) (says_rows pre.0.opened.known.tested.accesses.access)) (walk_in inv.1.walk c.in-Some.ensures.steps.0) in
     let h = hosting_at pre.0 pre.1 pre.2 c.fill_met.ensures c.clear.ensures inv.1.frame in
-    (c.put.ensures.frame.len ∙ inv.0, fill_turn _ _ _ _ inv.1 c.first-x.ensures c.but_first-left.ensures (c.hosted_row-to.ensures _ _ h m.0 m.1).is c.put.ensures)
+    (c.put.ensures.frame.len ∙ inv.0, fill_turn _ _ _ _ inv.1 c.in-Some.ensures.steps.0 c.in-Some.ensures.steps.1 (c.hosted_row-to.ensures _ _ h m.0 m.1).is c.put.ensures)
 
 pub shape_of-w : goal.shape_of-w
 shape_of-w c =
-    c.loop-left.invariant.0 ∙ (within_cleared HOSTED HOSTED_END (omega arith) c.clear.ensures).len ∙ c.fill_met.ensures.frame.len
+    c.loop-x.invariant.0 ∙ (within_cleared HOSTED HOSTED_END (omega arith) c.clear.ensures).len ∙ c.fill_met.ensures.frame.len
 
 pub returns : goal.returns
 returns c =
     let o = c.requires.0.opened in
     made_after c.fill_met.ensures.frame
-    (filled_made _ (few o) (rows_at c.rows-left.ensures (says_rows o.known.tested.accesses.access)) (λ i j l m e. hosted_only _ i j e)
-    (fill_end _ _ _ _ c.clear.ensures (sym c.some.ensures ∙ c.loop-left-test.false) c.loop-left.invariant.1))
+    (filled_made _ (few o) (rows_at (c.into_iter-x-iterator.ensures.into_iter_gives ∙ c.rows.ensures) (says_rows o.known.tested.accesses.access)) (λ i j l m e. hosted_only _ i j e)
+    (fill_end _ _ _ _ c.clear.ensures c.in-None.ensures.steps.0 c.loop-x.invariant.1))

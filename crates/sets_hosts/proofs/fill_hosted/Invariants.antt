@@ -11,8 +11,5 @@ use Rattle.sets_grids.specs.Regions.{HOSTED}
 use Rattle.sets_grids.specs.Hosted.{hosted_by}
 use Rattle.sets_hosts.proofs.fill_hosted.Given as goal
 
-abbrev pub invariant-loop-left : goal.invariant-loop-left
-invariant-loop-left l = (length l.w ≡ length l.initial.w) × Filling HOSTED l.initial.left (λ i j. ltb j l.n and hosted_by (table_in l.t l.n) i j) l.initial.w l.left l.w
-
-abbrev pub decreases-loop-left : goal.decreases-loop-left
-decreases-loop-left l = ROWS - next l.left
+abbrev pub invariant-loop-x : goal.invariant-loop-x
+invariant-loop-x l = (length l.w ≡ length l.initial.w) × Filling HOSTED l.initial.x-iterator.left (λ i j. ltb j l.n and hosted_by (table_in l.t l.n) i j) l.initial.w l.x-iterator.left l.w

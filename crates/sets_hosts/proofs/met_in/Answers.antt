@@ -18,4 +18,4 @@ in_domain-requires c =
 
 pub returns : goal.returns
 returns c =
-    met_in_rows _ _ _ _ _ _ _ _ _ _ _ _ _ c.rows-reads.ensures c.get-to.ensures c.of_kind-sight.ensures c.and.ensures c.union-seen.ensures c.less.ensures c.and-2.ensures c.or-met.ensures c.in_domain.ensures
+    met_in_rows _ _ _ _ _ _ _ _ _ _ _ _ _ c.rows-reads.ensures c.get-to.ensures c.of_kind-sight.ensures c.bitand.ensures c.union-seen.ensures c.sub.ensures c.bitand-2.ensures c.bitor-met.ensures c.in_domain.ensures

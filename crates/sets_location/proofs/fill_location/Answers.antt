@@ -69,7 +69,7 @@ carry_back-requires c =
     let pos = c.loop-x-test.true in
     let o = c.requires.0.opened in
     let f = joined (goal.at.carry_back-requires c).Joined-has in
-    (o.fit, record { low = omega (arith, inv.0, pos); widely = widely o _ (omega (arith, inv.0, pos)) _ _ _ _ c.rows.ensures c.rows-2.ensures c.less-wide.ensures c.has-in-loop-x.ensures c.if-has-2.true; room = f.from.given.room; available = f.from.locating.available }, carried_at pos inv.3)
+    (o.fit, record { low = omega (arith, inv.0, pos); widely = widely o _ (omega (arith, inv.0, pos)) _ _ _ _ c.rows.ensures c.rows-2.ensures c.sub-wide.ensures c.has-in-loop-x.ensures c.if-has-2.true; room = f.from.given.room; available = f.from.locating.available }, carried_at pos inv.3)
 
 pub loop-x-smaller-then-has-2 : goal.loop-x-smaller-then-has-2
 loop-x-smaller-then-has-2 c =
@@ -88,7 +88,7 @@ loop-x-preserved c =
     let inv = c.loop-x.invariant in
     let pos = c.loop-x-test.true in
     let o = c.requires.0.opened in
-    (omega (arith, inv.0), joined (goal.at.loop-x-preserved c).Joined-has, inv.2, carried_left o _ (omega (arith, inv.0, pos)) _ _ _ _ c.rows.ensures c.rows-2.ensures c.less-wide.ensures c.has-in-loop-x.ensures c.if-has-2.false (carried_at pos inv.3))
+    (omega (arith, inv.0), joined (goal.at.loop-x-preserved c).Joined-has, inv.2, carried_left o _ (omega (arith, inv.0, pos)) _ _ _ _ c.rows.ensures c.rows-2.ensures c.sub-wide.ensures c.has-in-loop-x.ensures c.if-has-2.false (carried_at pos inv.3))
 
 pub shape_of-w : goal.shape_of-w
 shape_of-w c =

@@ -40,49 +40,39 @@ pub plain_available-left-requires : goal.plain_available-left-requires
 plain_available-left-requires c =
     (c.requires.0, c.requires.1)
 
-pub loop-left-init : goal.loop-left-init
-loop-left-init c = grasp_begin _ _ _ _ _ _ _
-
-pub first-a-requires : goal.first-a-requires
-first-a-requires c = sym c.some.ensures ∙ c.loop-left-test.true
-
-pub but_first-left-requires : goal.but_first-left-requires
-but_first-left-requires c = sym c.some.ensures ∙ c.loop-left-test.true
+pub loop-a-init : goal.loop-a-init
+loop-a-init c = grasp_begin _ _ _ _ _ _ _
 
 pub covers-requires : goal.covers-requires
 covers-requires c =
-    let b = few c.requires.1.given.opened in (c.first-a.ensures.bound, omega (arith, c.requires.0.low, b))
+    let b = few c.requires.1.given.opened in (c.in-Some.ensures.steps.0.bound, omega (arith, c.requires.0.low, b))
 
 pub get-requires : goal.get-requires
 get-requires c =
-    omega (arith, c.first-a.ensures.bound, c.requires.1.given.room)
+    omega (arith, c.in-Some.ensures.steps.0.bound, c.requires.1.given.room)
 
 pub get-requires-then-covers : goal.get-requires-then-covers
 get-requires-then-covers c =
-    omega (arith, c.first-a.ensures.bound, c.requires.1.given.room)
+    omega (arith, c.in-Some.ensures.steps.0.bound, c.requires.1.given.room)
 
-pub loop-left-smaller-then-covers : goal.loop-left-smaller-then-covers
-loop-left-smaller-then-covers c =
-    walk_less c.first-a.ensures c.but_first-left.ensures
+pub loop-a-smaller-then-covers : goal.loop-a-smaller-then-covers
+loop-a-smaller-then-covers c =
+    walk_less c.in-Some.ensures.steps.0 c.in-Some.ensures.steps.1
 
-pub loop-left-preserved-then-covers : goal.loop-left-preserved-then-covers
+pub loop-a-preserved-then-covers : goal.loop-a-preserved-then-covers
 unfolding decode
-loop-left-preserved-then-covers c =
-    grasp_whole _ _ _ _ _ _ _ c.loop-left.invariant c.first-a.ensures c.but_first-left.ensures _ _ _ _ (sym c.covers.ensures ∙ c.if-covers.true) c.get.ensures c.get-then-covers.ensures c.or-to.ensures c.or-by.ensures
+loop-a-preserved-then-covers c =
+    grasp_whole _ _ _ _ _ _ _ c.loop-a.invariant c.in-Some.ensures.steps.0 c.in-Some.ensures.steps.1 _ _ _ _ (sym c.covers.ensures ∙ c.if-covers.true) c.get.ensures c.get-then-covers.ensures c.bitor-to.ensures c.bitor-by.ensures
 
 pub bit-requires : goal.bit-requires
-bit-requires c = c.first-a.ensures.bound
+bit-requires c = c.in-Some.ensures.steps.0.bound
 
-pub loop-left-smaller : goal.loop-left-smaller
-loop-left-smaller c =
-    walk_less c.first-a.ensures c.but_first-left.ensures
-
-pub loop-left-preserved : goal.loop-left-preserved
+pub loop-a-preserved : goal.loop-a-preserved
 unfolding decode
-loop-left-preserved c =
-    grasp_part _ _ _ _ _ _ _ c.loop-left.invariant c.first-a.ensures c.but_first-left.ensures _ _ (sym c.covers.ensures ∙ c.if-covers.false) c.bit.ensures c.or-parts.ensures
+loop-a-preserved c =
+    grasp_part _ _ _ _ _ _ _ c.loop-a.invariant c.in-Some.ensures.steps.0 c.in-Some.ensures.steps.1 _ _ (sym c.covers.ensures ∙ c.if-covers.false) c.bit.ensures c.bitor-parts.ensures
 
 pub returns : goal.returns
 unfolding decode
 returns c =
-    grasp_end c.requires.1.given.opened _ c.requires.0.low c.plain_available-left.ensures _ _ c.requires.1.locating c.requires.2 c.requires.0.is c.agent.ensures c.class.ensures c.get-to.ensures c.get-by.ensures c.none-parts.ensures (grasp_all _ _ _ _ _ _ _ _ _ _ _ (sym c.some.ensures ∙ c.loop-left-test.false) c.loop-left.invariant.1)
+    grasp_end c.requires.1.given.opened _ c.requires.0.low c.plain_available-left.ensures _ _ c.requires.1.locating c.requires.2 c.requires.0.is c.agent.ensures c.class.ensures c.get-to.ensures c.get-by.ensures c.none-parts.ensures (grasp_all _ _ _ _ _ _ _ _ _ _ _ c.in-None.ensures.steps.0 c.loop-a.invariant.1)

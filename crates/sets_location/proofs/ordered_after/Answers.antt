@@ -34,4 +34,4 @@ get-requires-2 c =
 
 pub returns : goal.returns
 returns c =
-    told_set c.requires.1.given.opened c.requires.1.locating _ c.requires.0.low c.requires.0.is _ _ _ _ _ _ _ _ _ _ _ _ _ _ c.get-happens.ensures c.rows-public.ensures c.of_agent.ensures c.and-own.ensures c.get.ensures c.and-l1.ensures c.has.ensures c.rows.ensures c.has-2.ensures c.and.ensures c.only_if-l2.ensures c.or.ensures c.get-2.ensures c.or-2.ensures
+    told_set c.requires.1.given.opened c.requires.1.locating _ c.requires.0.low c.requires.0.is _ _ _ _ _ _ _ _ _ _ _ _ _ _ c.get-happens.ensures c.rows-public.ensures c.of_agent.ensures c.bitand-own.ensures c.get.ensures c.bitand-l1.ensures c.has.ensures c.rows.ensures c.has-2.ensures c.bitand.ensures c.only_if-l2.ensures c.bitor.ensures c.get-2.ensures c.bitor-2.ensures

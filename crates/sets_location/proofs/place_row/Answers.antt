@@ -11,8 +11,8 @@ pub get-requires : goal.get-requires
 get-requires c =
     let b = few c.requires.1.given.opened in omega (arith, c.requires.2.low, b, c.requires.1.given.room)
 
-pub drop-over-requires : goal.drop-over-requires
-drop-over-requires c =
+pub without-over-requires : goal.without-over-requires
+without-over-requires c =
     let b = few c.requires.1.given.opened in omega (arith, c.requires.2.low, b)
 
 pub rows-requires : goal.rows-requires
@@ -31,7 +31,7 @@ pub place_write-requires : goal.place_write-requires
 place_write-requires c =
     let pre = c.requires in
     let o = pre.1.given.opened in
-    (pre.1, public_write_lem o _ pre.2.low pre.0 _ _ _ _ c.ordered_after-before.ensures (over_rows o _ pre.2.low pre.0 pre.1.locating _ _ c.get.ensures c.drop-over.ensures) c.rows.ensures c.rows-2.ensures c.and-public.ensures c.has.ensures c.if-has.true, pre.2)
+    (pre.1, public_write_lem o _ pre.2.low pre.0 _ _ _ _ c.ordered_after-before.ensures (over_rows o _ pre.2.low pre.0 pre.1.locating _ _ c.get.ensures c.without-over.ensures) c.rows.ensures c.rows-2.ensures c.bitand-public.ensures c.has.ensures c.if-has.true, pre.2)
 
 pub shape_of-w-then-has : goal.shape_of-w-then-has
 shape_of-w-then-has c = c.place_write.ensures.frame.len
@@ -43,7 +43,7 @@ pub put_whole-requires : goal.put_whole-requires
 put_whole-requires c =
     let pre = c.requires in
     let o = pre.1.given.opened in
-    (fitting pre.1.given, told_over o _ pre.2.low pre.0 _ c.ordered_after-before.ensures (over_rows o _ pre.2.low pre.0 pre.1.locating _ _ c.get.ensures c.drop-over.ensures) c.and.ensures, pre.2.empty)
+    (fitting pre.1.given, told_over o _ pre.2.low pre.0 _ c.ordered_after-before.ensures (over_rows o _ pre.2.low pre.0 pre.1.locating _ _ c.get.ensures c.without-over.ensures) c.bitand.ensures, pre.2.empty)
 
 pub shape_of-w : goal.shape_of-w
 shape_of-w c = c.put_whole.ensures.frame.len
@@ -53,6 +53,6 @@ returns c =
     let pre = c.requires in
     let o = pre.1.given.opened in
     adds_cong
-    (told_bits o _ pre.2.low pre.0 _ c.ordered_after-before.ensures (over_rows o _ pre.2.low pre.0 pre.1.locating _ _ c.get.ensures c.drop-over.ensures) c.and.ensures
-    (not_public o _ pre.2.low pre.0 _ _ _ _ c.rows.ensures c.rows-2.ensures c.and-public.ensures c.has.ensures c.if-has.false))
+    (told_bits o _ pre.2.low pre.0 _ c.ordered_after-before.ensures (over_rows o _ pre.2.low pre.0 pre.1.locating _ _ c.get.ensures c.without-over.ensures) c.bitand.ensures
+    (not_public o _ pre.2.low pre.0 _ _ _ _ c.rows.ensures c.rows-2.ensures c.bitand-public.ensures c.has.ensures c.if-has.false))
     c.put_whole.ensures

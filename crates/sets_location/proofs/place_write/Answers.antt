@@ -23,7 +23,7 @@ met_whole-requires c =
 pub put_whole-requires : goal.put_whole-requires
 put_whole-requires c =
     let pre = c.requires in
-    (fitting pre.0.given, write_over pre.0.given.opened _ pre.2.low (write_access pre.1) pre.1 _ _ _ _ _ _ _ _ c.get.ensures c.rows.ensures c.and-public.ensures c.and-target.ensures c.met_whole.ensures c.and-met.ensures c.or.ensures c.and-whole.ensures, pre.2.empty)
+    (fitting pre.0.given, write_over pre.0.given.opened _ pre.2.low (write_access pre.1) pre.1 _ _ _ _ _ _ _ _ c.get.ensures c.rows.ensures c.bitand-public.ensures c.bitand-target.ensures c.met_whole.ensures c.bitand-met.ensures c.bitor.ensures c.bitand-whole.ensures, pre.2.empty)
 
 pub maybe_met-requires : goal.maybe_met-requires
 maybe_met-requires c =
@@ -35,7 +35,7 @@ pub put_parts-requires : goal.put_parts-requires
 put_parts-requires c =
     let pre = c.requires in
     let frame = c.put_whole.ensures.frame in
-    (locate_kept frame pre.0, c.made_available-g.ensures, write_targets pre.0.given.opened _ pre.2.low (write_access pre.1) pre.1 _ _ _ _ _ _ _ _ c.get.ensures c.rows.ensures c.and-public.ensures c.and-target.ensures c.met_whole.ensures c.and-met.ensures c.or.ensures c.and-whole.ensures _ _ _ c.maybe_met.ensures c.and-maybe.ensures c.less.ensures)
+    (locate_kept frame pre.0, c.made_available-g.ensures, write_targets pre.0.given.opened _ pre.2.low (write_access pre.1) pre.1 _ _ _ _ _ _ _ _ c.get.ensures c.rows.ensures c.bitand-public.ensures c.bitand-target.ensures c.met_whole.ensures c.bitand-met.ensures c.bitor.ensures c.bitand-whole.ensures _ _ _ c.maybe_met.ensures c.bitand-maybe.ensures c.sub.ensures)
 
 pub shape_of-w : goal.shape_of-w
 shape_of-w c =
@@ -45,5 +45,5 @@ pub returns : goal.returns
 returns c =
     let pre = c.requires in
     adds_cong
-    (write_bits pre.0.given.opened _ pre.2.low (write_access pre.1) pre.1 _ _ _ _ _ _ _ _ c.get.ensures c.rows.ensures c.and-public.ensures c.and-target.ensures c.met_whole.ensures c.and-met.ensures c.or.ensures c.and-whole.ensures _ _ _ c.maybe_met.ensures c.and-maybe.ensures c.less.ensures)
+    (write_bits pre.0.given.opened _ pre.2.low (write_access pre.1) pre.1 _ _ _ _ _ _ _ _ c.get.ensures c.rows.ensures c.bitand-public.ensures c.bitand-target.ensures c.met_whole.ensures c.bitand-met.ensures c.bitor.ensures c.bitand-whole.ensures _ _ _ c.maybe_met.ensures c.bitand-maybe.ensures c.sub.ensures)
     (adds_then c.put_whole.ensures c.put_parts.ensures)

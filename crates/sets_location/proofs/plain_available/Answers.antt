@@ -23,4 +23,4 @@ onward-requires c =
 
 pub returns : goal.returns
 returns c =
-    first_set c.requires.1.given.opened c.requires.1.locating _ c.requires.0.low c.requires.0.is _ _ _ _ _ _ _ _ _ c.rows.ensures c.rows-2.ensures c.and-plain.ensures c.get.ensures c.get-2.ensures c.and-here.ensures c.and.ensures c.onward.ensures c.and-2.ensures
+    first_set c.requires.1.given.opened c.requires.1.locating _ c.requires.0.low c.requires.0.is _ _ _ _ _ _ _ _ _ c.rows.ensures c.rows-2.ensures c.bitand-plain.ensures c.get.ensures c.get-2.ensures c.bitand-here.ensures c.bitand.ensures c.onward.ensures c.bitand-2.ensures

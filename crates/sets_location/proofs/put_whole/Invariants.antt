@@ -7,8 +7,5 @@ use Rattle.sets_location.specs.Adds.{whole_bytes}
 use Rattle.sets_location.specs.Put.{AddsPairs, cut}
 use Rattle.sets_location.proofs.put_whole.Given as goal
 
-abbrev pub invariant-loop-left : goal.invariant-loop-left
-invariant-loop-left l = Walk l.initial.left l.left × AddsPairs l.n l.x (cut (whole_bytes (table_in l.t l.n) l.x l.initial.left) (next l.left)) l.initial.w l.w
-
-abbrev pub decreases-loop-left : goal.decreases-loop-left
-decreases-loop-left l = ROWS - next l.left
+abbrev pub invariant-loop-y : goal.invariant-loop-y
+invariant-loop-y l = Walk l.initial.y-iterator.left l.y-iterator.left × AddsPairs l.n l.x (cut (whole_bytes (table_in l.t l.n) l.x l.initial.y-iterator.left) (next l.y-iterator.left)) l.initial.w l.w

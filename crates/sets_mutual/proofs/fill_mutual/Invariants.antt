@@ -11,8 +11,5 @@ use Rattle.model.specs.Scope.{mutually}
 use Rattle.work_area.specs.Regions.{MUTUAL}
 use Rattle.sets_mutual.proofs.fill_mutual.Given as goal
 
-abbrev pub invariant-loop-left : goal.invariant-loop-left
-invariant-loop-left l = (length l.w ≡ length l.initial.w) × Filling MUTUAL l.initial.left (λ i j. ltb j l.n and mutually (table_in l.t l.n) i j) l.initial.w l.left l.w
-
-abbrev pub decreases-loop-left : goal.decreases-loop-left
-decreases-loop-left l = ROWS - next l.left
+abbrev pub invariant-loop-i : goal.invariant-loop-i
+invariant-loop-i l = (length l.w ≡ length l.initial.w) × Filling MUTUAL l.initial.i-iterator.left (λ i j. ltb j l.n and mutually (table_in l.t l.n) i j) l.initial.w l.i-iterator.left l.w

@@ -11,8 +11,8 @@ get-requires c =
     let b = few pre.2 in
     omega (arith, pre.0)
 
-pub drop-requires : goal.drop-requires
-drop-requires c =
+pub without-requires : goal.without-requires
+without-requires c =
     let pre = c.requires in
     let b = few pre.2 in
     omega (arith, pre.0)
@@ -21,4 +21,4 @@ pub returns : goal.returns
 unfolding decode
 returns c =
     let pre = c.requires in
-    mutual_rows_lem pre.2 _ _ _ _ _ _ _ pre.0 pre.1 c.get.ensures c.rows.ensures c.and-here.ensures c.together.ensures c.and.ensures c.drop.ensures
+    mutual_rows_lem pre.2 _ _ _ _ _ _ _ pre.0 pre.1 c.get.ensures c.rows.ensures c.bitand-here.ensures c.together.ensures c.bitand.ensures c.without.ensures

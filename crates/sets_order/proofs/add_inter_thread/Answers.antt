@@ -20,7 +20,7 @@ pub returns-then-not-some-is_synced : goal.returns-then-not-some-is_synced
 returns-then-not-some-is_synced c =
     let b = off_both _ _ c.if-not-some-is_synced.true in
     inter_quiet c.requires.1.given.opened.rows c.requires.0.some c.requires.0.low
-    (calm c.requires.1.given.opened.rows (given_few c.requires.1.given) c.requires.1.told c.of_classes-k.ensures (sym c.some.ensures ∙ b.0) (sym c.is_synced.ensures ∙ b.1))
+    (calm c.requires.1.given.opened.rows (given_few c.requires.1.given) c.requires.1.told c.of_classes-k.ensures (sym c.has_any.ensures ∙ b.0) (sym c.is_synced.ensures ∙ b.1))
 
 pub fill_reach-requires : goal.fill_reach-requires
 fill_reach-requires c =

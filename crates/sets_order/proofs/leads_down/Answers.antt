@@ -4,36 +4,26 @@ use Rattle.sets_order.specs.Down.{upward_off, upward_at, upward_found, upward_en
 use native.Mathlib.Omega.{arith}
 use Rattle.sets_order.proofs.leads_down.Goals as goal
 
-pub loop-left-init : goal.loop-left-init
-loop-left-init c = search_begin _ _ (λ i e. upward_off _ _ _ i e)
-
-pub first-a-requires : goal.first-a-requires
-first-a-requires c = sym c.some.ensures ∙ c.loop-left-test.true
-
-pub but_first-left-requires : goal.but_first-left-requires
-but_first-left-requires c = sym c.some.ensures ∙ c.loop-left-test.true
+pub loop-a-init : goal.loop-a-init
+loop-a-init c = search_begin _ _ (λ i e. upward_off _ _ _ i e)
 
 pub get-requires : goal.get-requires
 get-requires c =
-    let a = c.requires in let b = c.first-a.ensures.bound in omega arith
+    let a = c.requires in let b = c.in-Some.ensures.steps.0.bound in omega arith
 
 pub above-requires : goal.above-requires
-above-requires c = c.first-a.ensures.bound
+above-requires c = c.in-Some.ensures.steps.0.bound
 
 pub returns-then-some : goal.returns-then-some
 returns-then-some c =
-    let m = walk_in c.loop-left.invariant.0 c.first-a.ensures in
-    upward_found _ _ _ _ c.first-a.ensures.bound (sym (upward_at _ _ _ _ _ _ _ _ m c.get.ensures c.above.ensures c.less.ensures c.some-in-loop-left.ensures) ∙ c.if-some.true)
+    let m = walk_in c.loop-a.invariant.0 c.in-Some.ensures.steps.0 in
+    upward_found _ _ _ _ c.in-Some.ensures.steps.0.bound (sym (upward_at _ _ _ _ _ _ _ _ m c.get.ensures c.above.ensures c.sub.ensures c.has_any-in-loop-a.ensures) ∙ c.if-some.true)
 
-pub loop-left-smaller : goal.loop-left-smaller
-loop-left-smaller c =
-    walk_less c.first-a.ensures c.but_first-left.ensures
-
-pub loop-left-preserved : goal.loop-left-preserved
-loop-left-preserved c =
-    let m = walk_in c.loop-left.invariant.0 c.first-a.ensures in
-    search_turn _ _ (λ i e. upward_off _ _ _ i e) c.loop-left.invariant c.first-a.ensures c.but_first-left.ensures
-    (sym (upward_at _ _ _ _ _ _ _ _ m c.get.ensures c.above.ensures c.less.ensures c.some-in-loop-left.ensures) ∙ c.if-some.false)
+pub loop-a-preserved : goal.loop-a-preserved
+loop-a-preserved c =
+    let m = walk_in c.loop-a.invariant.0 c.in-Some.ensures.steps.0 in
+    search_turn _ _ (λ i e. upward_off _ _ _ i e) c.loop-a.invariant c.in-Some.ensures.steps.0 c.in-Some.ensures.steps.1
+    (sym (upward_at _ _ _ _ _ _ _ _ m c.get.ensures c.above.ensures c.sub.ensures c.has_any-in-loop-a.ensures) ∙ c.if-some.false)
 
 pub returns : goal.returns
-returns c = upward_end _ _ _ (search_end _ _ (λ i e. upward_off _ _ _ i e) _ (sym c.some.ensures ∙ c.loop-left-test.false) c.loop-left.invariant.1)
+returns c = upward_end _ _ _ (search_end _ _ (λ i e. upward_off _ _ _ i e) _ c.in-None.ensures.steps.0 c.loop-a.invariant.1)

@@ -17,7 +17,7 @@ loop-unmet-init c = meeting_begin c.requires.0 _ c.rows-unmet.ensures c.requires
 pub take_in-unmet-requires : goal.take_in-unmet-requires
 unfolding decode
 take_in-unmet-requires c =
-    (sym c.some.ensures ∙ c.loop-unmet-test.true, c.requires.0, c.loop-unmet.invariant)
+    (sym c.has_any.ensures ∙ c.loop-unmet-test.true, c.requires.0, c.loop-unmet.invariant)
 
 pub loop-unmet-smaller : goal.loop-unmet-smaller
 loop-unmet-smaller c = c.take_in-unmet.ensures.less
@@ -32,4 +32,4 @@ shape_of-near c =
 pub returns : goal.returns
 unfolding decode
 returns c =
-    meeting_end c.requires.0 (sym c.some.ensures ∙ c.loop-unmet-test.false) c.loop-unmet.invariant
+    meeting_end c.requires.0 (sym c.has_any.ensures ∙ c.loop-unmet-test.false) c.loop-unmet.invariant

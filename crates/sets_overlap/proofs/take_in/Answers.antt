@@ -24,11 +24,11 @@ get-requires c =
 pub loop-own-init : goal.loop-own-init
 unfolding decode
 loop-own-init c =
-    turn_begin c.requires.1 _ c.requires.2 c.first-i.ensures c.get-own.ensures c.less-rest.ensures _ _ c.get.ensures c.or-all.ensures
+    turn_begin c.requires.1 _ c.requires.2 c.first-i.ensures c.get-own.ensures c.sub-rest.ensures _ _ c.get.ensures c.bitor-all.ensures
 
 pub first-j-requires : goal.first-j-requires
 first-j-requires c =
-    sym c.some.ensures ∙ c.loop-own-test.true
+    sym c.has_any.ensures ∙ c.loop-own-test.true
 
 pub get-here-requires : goal.get-here-requires
 get-here-requires c =
@@ -49,22 +49,22 @@ join-requires c =
 pub loop-own-smaller-then-start-end : goal.loop-own-smaller-then-start-end
 unfolding decode
 loop-own-smaller-then-start-end c =
-    less_next c.requires.1 _ (c.loop-own.invariant.near.sub _ c.first-j.ensures.hit) c.first-j.ensures c.get-here.ensures c.less-left.ensures
+    less_next c.requires.1 _ (c.loop-own.invariant.near.sub _ c.first-j.ensures.hit) c.first-j.ensures c.get-here.ensures c.sub-left.ensures
 
 pub loop-own-preserved-then-start-end : goal.loop-own-preserved-then-start-end
 unfolding decode
 loop-own-preserved-then-start-end c =
-    turn_met c.requires.1 _ c.requires.2 c.first-i.ensures c.get-own.ensures c.less-rest.ensures _ c.loop-own.invariant c.first-j.ensures c.get-here.ensures c.less-left.ensures _ (meet_said _ _ _ _ _ _ c.start-start.ensures.0 c.end-end.ensures.0 c.end.ensures.0 c.start.ensures.0) c.if-start-end.true c.or-all-then-start-end.ensures c.join.ensures
+    turn_met c.requires.1 _ c.requires.2 c.first-i.ensures c.get-own.ensures c.sub-rest.ensures _ c.loop-own.invariant c.first-j.ensures c.get-here.ensures c.sub-left.ensures _ (meet_said _ _ _ _ _ _ c.start-start.ensures.0 c.end-end.ensures.0 c.end.ensures.0 c.start.ensures.0) c.if-start-end.true c.bitor-all-then-start-end.ensures c.join.ensures
 
 pub loop-own-smaller : goal.loop-own-smaller
 unfolding decode
 loop-own-smaller c =
-    less_next c.requires.1 _ (c.loop-own.invariant.near.sub _ c.first-j.ensures.hit) c.first-j.ensures c.get-here.ensures c.less-left.ensures
+    less_next c.requires.1 _ (c.loop-own.invariant.near.sub _ c.first-j.ensures.hit) c.first-j.ensures c.get-here.ensures c.sub-left.ensures
 
 pub loop-own-preserved : goal.loop-own-preserved
 unfolding decode
 loop-own-preserved c =
-    turn_apart c.requires.1 _ c.requires.2 c.first-i.ensures c.get-own.ensures c.less-rest.ensures _ c.loop-own.invariant c.first-j.ensures c.get-here.ensures c.less-left.ensures (meet_said _ _ _ _ _ _ c.start-start.ensures.0 c.end-end.ensures.0 c.end.ensures.0 c.start.ensures.0) c.if-start-end.false
+    turn_apart c.requires.1 _ c.requires.2 c.first-i.ensures c.get-own.ensures c.sub-rest.ensures _ c.loop-own.invariant c.first-j.ensures c.get-here.ensures c.sub-left.ensures (meet_said _ _ _ _ _ _ c.start-start.ensures.0 c.end-end.ensures.0 c.end.ensures.0 c.start.ensures.0) c.if-start-end.false
 
 pub put-requires : goal.put-requires
 put-requires c =
@@ -77,4 +77,4 @@ shape_of-near c =
 pub returns : goal.returns
 unfolding decode
 returns c =
-    turn_end c.requires.1 _ c.requires.2 c.first-i.ensures c.get-own.ensures c.less-rest.ensures c.loop-own.invariant (sym c.some.ensures ∙ c.loop-own-test.false) c.put.ensures
+    turn_end c.requires.1 _ c.requires.2 c.first-i.ensures c.get-own.ensures c.sub-rest.ensures c.loop-own.invariant (sym c.has_any.ensures ∙ c.loop-own-test.false) c.put.ensures

@@ -8,8 +8,5 @@ use Rattle.sets_of_rows.specs.Walk.{Walk}
 use Rattle.sets_overwritten.specs.Over.{writer_in}
 use Rattle.sets_overwritten.proofs.overwritten_by.Given as goal
 
-abbrev pub invariant-loop-left : goal.invariant-loop-left
-invariant-loop-left l = Walk l.initial.left l.left × (least (next l.left) (writer_in (table_in l.t l.n) l.n l.source l.y) ≡ next l.left)
-
-abbrev pub decreases-loop-left : goal.decreases-loop-left
-decreases-loop-left l = ROWS - next l.left
+abbrev pub invariant-loop-z : goal.invariant-loop-z
+invariant-loop-z l = Walk l.initial.z-iterator.left l.z-iterator.left × (least (next l.z-iterator.left) (writer_in (table_in l.t l.n) l.n l.source l.y) ≡ next l.z-iterator.left)

@@ -20,9 +20,9 @@ has-requires c =
 pub returns-then-has : goal.returns-then-has
 unfolding decode
 returns-then-has c =
-    writer_rows c.requires.1.given c.requires.1.judging c.requires.0.low c.requires.0.is c.rows-writes.ensures c.has.ensures c.if-has.true (over_rows c.requires.1.given c.requires.1.judging c.requires.0.low c.requires.0.is _ c.get.ensures c.above.ensures c.and-over.ensures)
+    writer_rows c.requires.1.given c.requires.1.judging c.requires.0.low c.requires.0.is c.rows-writes.ensures c.has.ensures c.if-has.true (over_rows c.requires.1.given c.requires.1.judging c.requires.0.low c.requires.0.is _ c.get.ensures c.above.ensures c.bitand-over.ensures)
 
 pub returns-else-has : goal.returns-else-has
 unfolding decode
 returns-else-has c =
-    reader_rows c.requires.1.given c.requires.1.judging c.requires.0.low c.requires.0.is c.rows-writes.ensures c.has.ensures c.if-has.false (over_rows c.requires.1.given c.requires.1.judging c.requires.0.low c.requires.0.is _ c.get.ensures c.above.ensures c.and-over.ensures) c.and.ensures
+    reader_rows c.requires.1.given c.requires.1.judging c.requires.0.low c.requires.0.is c.rows-writes.ensures c.has.ensures c.if-has.false (over_rows c.requires.1.given c.requires.1.judging c.requires.0.low c.requires.0.is _ c.get.ensures c.above.ensures c.bitand-over.ensures) c.bitand.ensures

@@ -16,7 +16,7 @@ pub loop-left-init : goal.loop-left-init
 loop-left-init c = tally_begin _ _ (ordered_out _ _ _ c.requires.1)
 
 pub first-requires : goal.first-requires
-first-requires c = sym c.some.ensures ∙ c.loop-left-test.true
+first-requires c = sym c.has_any.ensures ∙ c.loop-left-test.true
 
 pub unordered-requires : goal.unordered-requires
 unordered-requires c =
@@ -27,7 +27,7 @@ overflow_add-count c =
     let f = tally_fits 1 _ c.loop-left.invariant.1 c.first.ensures (one_fits _ _) in let a = f.0 in let b = f.1 in omega arith
 
 pub but_first-left-requires : goal.but_first-left-requires
-but_first-left-requires c = sym c.some.ensures ∙ c.loop-left-test.true
+but_first-left-requires c = sym c.has_any.ensures ∙ c.loop-left-test.true
 
 pub loop-left-smaller : goal.loop-left-smaller
 loop-left-smaller c = walk_less c.first.ensures c.but_first-left.ensures
@@ -44,4 +44,4 @@ loop-left-preserved c =
     tally_turn _ _ (ordered_out _ _ _ c.requires.1) c.loop-left.invariant c.first.ensures c.but_first-left.ensures e
 
 pub returns : goal.returns
-returns c = tally_end _ _ (ordered_out _ _ _ c.requires.1) _ _ (sym c.some.ensures ∙ c.loop-left-test.false) c.loop-left.invariant.1 ∙ row_sum _ _ _ (fitting_few c.requires.2.fitting)
+returns c = tally_end _ _ (ordered_out _ _ _ c.requires.1) _ _ (sym c.has_any.ensures ∙ c.loop-left-test.false) c.loop-left.invariant.1 ∙ row_sum _ _ _ (fitting_few c.requires.2.fitting)

@@ -17,62 +17,47 @@ rows-left-requires c = let a = c.requires.given.opened.space in omega arith
 
 pub pairs-init : goal.pairs-init
 pairs-init c =
-    let acc = rows_at c.rows-left.ensures (says_rows c.requires.given.opened.known.tested.accesses.access) in
+    let acc = rows_at (c.into_iter-x-iterator.ensures.into_iter_gives ∙ c.rows.ensures) (says_rows c.requires.given.opened.known.tested.accesses.access) in
     let b = search_begin _ _ (has_out _ _ acc) in
     (b.0, b.1, refl)
-
-pub first-x-requires : goal.first-x-requires
-first-x-requires c = sym c.some.ensures ∙ c.pairs-test.true
-
-pub but_first-left-requires : goal.but_first-left-requires
-but_first-left-requires c = sym c.some.ensures ∙ c.pairs-test.true
 
 pub open_after-others-requires : goal.open_after-others-requires
 unfolding decode
 open_after-others-requires c =
-    let acc = rows_at c.rows-left.ensures (says_rows c.requires.given.opened.known.tested.accesses.access) in
-    let m = member_in _ acc (walk_in c.pairs.invariant.0 c.first-x.ensures) in
+    let acc = rows_at (c.into_iter-x-iterator.ensures.into_iter_gives ∙ c.rows.ensures) (says_rows c.requires.given.opened.known.tested.accesses.access) in
+    let m = member_in _ acc (walk_in c.pairs.invariant.0 c.in-Some.ensures.steps.0) in
     (record { low = m.0; is = m.1 }, c.requires)
 
-pub loop-others-init : goal.loop-others-init
-loop-others-init c =
+pub loop-y-init : goal.loop-y-init
+loop-y-init c =
     let b = search_begin _ _ (races_out _ _ _ c.open_after-others.ensures) in (b.0, b.1, c.pairs.invariant.2)
 
 pub pairs-smaller : goal.pairs-smaller
 pairs-smaller c =
-    walk_less c.first-x.ensures c.but_first-left.ensures
+    walk_less c.in-Some.ensures.steps.0 c.in-Some.ensures.steps.1
 
 pub pairs-preserved : goal.pairs-preserved
 pairs-preserved c =
-    let acc = rows_at c.rows-left.ensures (says_rows c.requires.given.opened.known.tested.accesses.access) in
+    let acc = rows_at (c.into_iter-x-iterator.ensures.into_iter_gives ∙ c.rows.ensures) (says_rows c.requires.given.opened.known.tested.accesses.access) in
     let given = c.requires.given in
     let inv = c.pairs.invariant in
     let none = partner_none _ _ _ given.opened.rows (given_few given)
-    (search_end _ _ (races_out _ _ _ c.open_after-others.ensures) _ (sym c.some-in-loop-others.ensures ∙ c.loop-others-test.false) c.loop-others.invariant.1) in
-    let b = search_turn _ _ (has_out _ _ acc) (inv.0, inv.1) c.first-x.ensures c.but_first-left.ensures (from_none _ _ _ none refl) in
-    (b.0, b.1, c.loop-others.invariant.2)
-
-pub first-y-requires : goal.first-y-requires
-first-y-requires c = sym c.some-in-loop-others.ensures ∙ c.loop-others-test.true
-
-pub but_first-others-requires : goal.but_first-others-requires
-but_first-others-requires c = sym c.some-in-loop-others.ensures ∙ c.loop-others-test.true
+    (search_end _ _ (races_out _ _ _ c.open_after-others.ensures) _ c.in-None.ensures.steps.0 c.loop-y.invariant.1) in
+    let b = search_turn _ _ (has_out _ _ acc) (inv.0, inv.1) c.in-Some.ensures.steps.0 c.in-Some.ensures.steps.1 (from_none _ _ _ none refl) in
+    (b.0, b.1, c.loop-y.invariant.2)
 
 pub unordered-bytes-requires : goal.unordered-bytes-requires
 unfolding decode
 unordered-bytes-requires c =
-    let acc = rows_at c.rows-left.ensures (says_rows c.requires.given.opened.known.tested.accesses.access) in
-    let m = member_in _ acc (walk_in c.pairs.invariant.0 c.first-x.ensures) in
-    let o = member_in _ c.open_after-others.ensures (walk_in c.loop-others.invariant.0 c.first-y.ensures) in
+    let acc = rows_at (c.into_iter-x-iterator.ensures.into_iter_gives ∙ c.rows.ensures) (says_rows c.requires.given.opened.known.tested.accesses.access) in
+    let m = member_in _ acc (walk_in c.pairs.invariant.0 c.in-Some.ensures.steps.0) in
+    let o = member_in _ c.open_after-others.ensures (walk_in c.loop-y.invariant.0 c.in-Some.ensures.steps.0) in
     (record { first = m.0; second = o.0 }, open_conflict _ _ _ o.1, judged c.requires)
 
-pub loop-others-smaller : goal.loop-others-smaller
-loop-others-smaller c = walk_less c.first-y.ensures c.but_first-others.ensures
-
-pub loop-others-preserved : goal.loop-others-preserved
-loop-others-preserved c =
-    let inv = c.loop-others.invariant in
-    let b = search_turn _ _ (races_out _ _ _ c.open_after-others.ensures) (inv.0, inv.1) c.first-y.ensures c.but_first-others.ensures (race_off _ _ _ _ c.unordered-bytes.ensures c.if-bytes-eq0.true) in
+pub loop-y-preserved : goal.loop-y-preserved
+loop-y-preserved c =
+    let inv = c.loop-y.invariant in
+    let b = search_turn _ _ (races_out _ _ _ c.open_after-others.ensures) (inv.0, inv.1) c.in-Some.ensures.steps.0 c.in-Some.ensures.steps.1 (race_off _ _ _ _ c.unordered-bytes.ensures c.if-bytes-eq0.true) in
     (b.0, b.1, inv.2)
 
 pub loop-k-init : goal.loop-k-init
@@ -101,15 +86,15 @@ loop-k-preserved c = least_more _ _ c.loop-k.invariant (sym c.is_set.ensures ∙
 
 pub overflow_cast-answer : goal.overflow_cast-answer
 overflow_cast-answer c =
-    let b = c.first-x.ensures.bound in omega arith
+    let b = c.in-Some.ensures.steps.0.bound in omega arith
 
-pub overflow_cast-answer-in-loop-others : goal.overflow_cast-answer-in-loop-others
-overflow_cast-answer-in-loop-others c =
-    let b = c.first-y.ensures.bound in omega arith
+pub overflow_cast-answer-in-loop-y : goal.overflow_cast-answer-in-loop-y
+overflow_cast-answer-in-loop-y c =
+    let b = c.in-Some.ensures.steps.0.bound in omega arith
 
 pub start-requires : goal.start-requires
 start-requires c =
-    c.first-x.ensures.bound
+    c.in-Some.ensures.steps.0.bound
 
 pub overflow_add-answer : goal.overflow_add-answer
 overflow_add-answer c =
@@ -118,11 +103,11 @@ overflow_add-answer c =
     let s = c.start.ensures.1 in
     omega arith
 
-pub overflow_cast-answer-in-loop-others-2 : goal.overflow_cast-answer-in-loop-others-2
+pub overflow_cast-answer-in-loop-y-2 : goal.overflow_cast-answer-in-loop-y-2
 unfolding decode
-overflow_cast-answer-in-loop-others-2 c =
-    let acc = rows_at c.rows-left.ensures (says_rows c.requires.given.opened.known.tested.accesses.access) in
-    let m = member_in _ acc (walk_in c.pairs.invariant.0 c.first-x.ensures) in
+overflow_cast-answer-in-loop-y-2 c =
+    let acc = rows_at (c.into_iter-x-iterator.ensures.into_iter_gives ∙ c.rows.ensures) (says_rows c.requires.given.opened.known.tested.accesses.access) in
+    let m = member_in _ acc (walk_in c.pairs.invariant.0 c.in-Some.ensures.steps.0) in
     let l = m.0 in
     let z = c.if-bytes-eq0.false in
     let low = byte_low c.unordered-bytes.ensures c.loop-k.invariant (omega arith) in
@@ -134,24 +119,24 @@ overflow_cast-answer-in-loop-others-2 c =
 
 pub returns-after-pairs : goal.returns-after-pairs
 returns-after-pairs c =
-    let acc = rows_at c.rows-left.ensures (says_rows c.requires.given.opened.known.tested.accesses.access) in
+    let acc = rows_at (c.into_iter-x-iterator.ensures.into_iter_gives ∙ c.rows.ensures) (says_rows c.requires.given.opened.known.tested.accesses.access) in
     let given = c.requires.given in
-    c.pairs.invariant.2 ∙ row_none _ _ given.opened.rows (given_few given) (search_end _ _ (has_out _ _ acc) _ (sym c.some.ensures ∙ c.pairs-test.false) c.pairs.invariant.1)
+    c.pairs.invariant.2 ∙ row_none _ _ given.opened.rows (given_few given) (search_end _ _ (has_out _ _ acc) _ (sym c.has_any.ensures ∙ c.pairs-test.false) c.pairs.invariant.1)
 
 pub returns-then-is_set : goal.returns-then-is_set
 unfolding decode
 returns-then-is_set c =
-    let acc = rows_at c.rows-left.ensures (says_rows c.requires.given.opened.known.tested.accesses.access) in
+    let acc = rows_at (c.into_iter-x-iterator.ensures.into_iter_gives ∙ c.rows.ensures) (says_rows c.requires.given.opened.known.tested.accesses.access) in
     let given = c.requires.given in
     let few = given_few given in
-    let m = member_in _ acc (walk_in c.pairs.invariant.0 c.first-x.ensures) in
-    let o = member_in _ c.open_after-others.ensures (walk_in c.loop-others.invariant.0 c.first-y.ensures) in
+    let m = member_in _ acc (walk_in c.pairs.invariant.0 c.in-Some.ensures.steps.0) in
+    let o = member_in _ c.open_after-others.ensures (walk_in c.loop-y.invariant.0 c.in-Some.ensures.steps.0) in
     let z = c.if-bytes-eq0.false in
     let low = byte_low c.unordered-bytes.ensures c.loop-k.invariant (omega arith) in
     let on = race_on _ _ _ _ o.0 o.1 c.unordered-bytes.ensures (omega arith) in
-    let inner = c.loop-others.invariant in
+    let inner = c.loop-y.invariant in
     let outer = c.pairs.invariant in
     let byte = byte_found c.unordered-bytes.ensures c.loop-k.invariant (sym c.is_set.ensures ∙ c.if-is_set.true) low in
-    let is = partner_found _ _ _ given.opened.rows _ o.0 (search_found _ _ (races_out _ _ _ c.open_after-others.ensures) (inner.0, inner.1) c.first-y.ensures on) few on byte c.start.ensures.0 in
+    let is = partner_found _ _ _ given.opened.rows _ o.0 (search_found _ _ (races_out _ _ _ c.open_after-others.ensures) (inner.0, inner.1) c.in-Some.ensures.steps.0 on) few on byte c.start.ensures.0 in
     let has = from_some _ _ _ m.0 is refl in
-    row_found _ _ given.opened.rows few _ m.0 (search_found _ _ (has_out _ _ acc) (outer.0, outer.1) c.first-x.ensures has) has is
+    row_found _ _ given.opened.rows few _ m.0 (search_found _ _ (has_out _ _ acc) (outer.0, outer.1) c.in-Some.ensures.steps.0 has) has is

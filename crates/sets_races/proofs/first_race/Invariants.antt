@@ -16,14 +16,11 @@ invariant-loop-k l = least l.k (bit_of l.bytes) ≡ l.k
 abbrev pub decreases-loop-k : goal.decreases-loop-k
 decreases-loop-k l = LONGEST - l.k
 
-abbrev pub invariant-loop-others : goal.invariant-loop-others
-invariant-loop-others l = Walk l.initial.others l.others × (least (next l.others) (races_in (table_in l.t l.n) l.n l.x) ≡ next l.others) × (l.answer ≡ Nothing)
-
-abbrev pub decreases-loop-others : goal.decreases-loop-others
-decreases-loop-others l = ROWS - next l.others
+abbrev pub invariant-loop-y : goal.invariant-loop-y
+invariant-loop-y l = Walk l.initial.y-iterator.left l.y-iterator.left × (least (next l.y-iterator.left) (races_in (table_in l.t l.n) l.n l.x) ≡ next l.y-iterator.left) × (l.answer ≡ Nothing)
 
 abbrev pub invariant-pairs : goal.invariant-pairs
-invariant-pairs l = Walk l.initial.left l.left × (least (next l.left) (has_in (table_in l.t l.n) l.n) ≡ next l.left) × (l.answer ≡ Nothing)
+invariant-pairs l = Walk l.initial.x-iterator.left l.x-iterator.left × (least (next l.x-iterator.left) (has_in (table_in l.t l.n) l.n) ≡ next l.x-iterator.left) × (l.answer ≡ Nothing)
 
 abbrev pub decreases-pairs : goal.decreases-pairs
-decreases-pairs l = ROWS - next l.left
+decreases-pairs l = ROWS - next l.x-iterator.left

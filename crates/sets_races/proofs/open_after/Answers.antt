@@ -14,4 +14,4 @@ pub returns : goal.returns
 unfolding decode
 returns c =
     let pre = c.requires in
-    open_rows pre.1.given pre.1.judging pre.0.low pre.0.is c.conflicting.ensures c.get.ensures c.less.ensures
+    open_rows pre.1.given pre.1.judging pre.0.low pre.0.is c.conflicting.ensures c.get.ensures c.sub.ensures

@@ -1,3 +1,4 @@
+use Rattle.sets_of_rows.specs.Rows.{started}
 use mathlib.Core.Path.{refl, sym, ◌∙◌}
 use native.Mathlib.Omega.{arith}
 use Rattle.model.specs.Table.{decode}
@@ -17,57 +18,47 @@ pub get-requires-2 : goal.get-requires-2
 get-requires-2 c =
     let a = c.requires.1.opened.space in omega arith
 
-pub loop-left-init : goal.loop-left-init
+pub loop-k-init : goal.loop-k-init
 unfolding decode
-loop-left-init c =
+loop-k-init c =
     let pre = c.requires in
     let o = pre.1.opened in
-    let says = kind_rows o pre.2 _ 4 _ _ _ pre.0.low (omega arith) c.get.ensures c.get-2.ensures c.and-left.ensures in
+    let says = kind_rows o pre.2 _ 4 _ _ _ pre.0.low (omega arith) c.get.ensures c.get-2.ensures (started c.into_iter-k-iterator.ensures.into_iter_gives c.bitand.ensures) in
     (refl, head_begin _ _ _ o.rows (few o) _ (head_walked _ _ _ _ o.rows says) _)
 
-pub first-k-requires : goal.first-k-requires
-first-k-requires c = sym c.some.ensures ∙ c.loop-left-test.true
-
-pub but_first-left-requires : goal.but_first-left-requires
-but_first-left-requires c = sym c.some.ensures ∙ c.loop-left-test.true
-
 pub rank-requires : goal.rank-requires
-rank-requires c = c.first-k.ensures.bound
+rank-requires c = c.in-Some.ensures.steps.0.bound
 
 pub join_if-requires : goal.join_if-requires
 join_if-requires c =
     let pre = c.requires in
     let b = few pre.1.opened in
-    let e = c.loop-left.invariant.0 in
+    let e = c.loop-k.invariant.0 in
     let r = pre.1.room in
-    (c.first-k.ensures.bound, omega (arith, pre.0.low), omega arith)
+    (c.in-Some.ensures.steps.0.bound, omega (arith, pre.0.low), omega arith)
 
-pub loop-left-smaller : goal.loop-left-smaller
-loop-left-smaller c =
-    walk_less c.first-k.ensures c.but_first-left.ensures
-
-pub loop-left-preserved : goal.loop-left-preserved
+pub loop-k-preserved : goal.loop-k-preserved
 unfolding decode
-loop-left-preserved c =
+loop-k-preserved c =
     let pre = c.requires in
     let o = pre.1.opened in
-    let says = kind_rows o pre.2 _ 4 _ _ _ pre.0.low (omega arith) c.get.ensures c.get-2.ensures c.and-left.ensures in
-    let inv = c.loop-left.invariant in
-    let m = head_member _ _ _ _ o.rows says _ (walk_in inv.1.0 c.first-k.ensures) in
+    let says = kind_rows o pre.2 _ 4 _ _ _ pre.0.low (omega arith) c.get.ensures c.get-2.ensures (started c.into_iter-k-iterator.ensures.into_iter_gives c.bitand.ensures) in
+    let inv = c.loop-k.invariant in
+    let m = head_member _ _ _ _ o.rows says _ (walk_in inv.1.0 c.in-Some.ensures.steps.0) in
     let k = since_is _ _ _ c.counted-counted.ensures c.rank.ensures c.rank-rank.ensures c.since.ensures.0 in
     let join = c.join_if.ensures in (
       join.len ∙ inv.0,
-      head_step _ _ _ o.rows (few o) _ (head_walked _ _ _ _ o.rows says) _ inv.1 c.first-k.ensures c.but_first-left.ensures m.0
+      head_step _ _ _ o.rows (few o) _ (head_walked _ _ _ _ o.rows says) _ inv.1 c.in-Some.ensures.steps.0 c.in-Some.ensures.steps.1 m.0
           (near_is _ _ _ _ pre.0.ranks m.1 pre.0.ends k) join,
     )
 
 pub shape_of-w : goal.shape_of-w
-shape_of-w c = c.loop-left.invariant.0
+shape_of-w c = c.loop-k.invariant.0
 
 pub returns : goal.returns
 unfolding decode
 returns c =
     let pre = c.requires in
     let o = pre.1.opened in
-    let says = kind_rows o pre.2 _ 4 _ _ _ pre.0.low (omega arith) c.get.ensures c.get-2.ensures c.and-left.ensures in
-    head_end _ _ _ o.rows (few o) _ (head_walked _ _ _ _ o.rows says) _ (sym c.some.ensures ∙ c.loop-left-test.false) c.loop-left.invariant.1.1
+    let says = kind_rows o pre.2 _ 4 _ _ _ pre.0.low (omega arith) c.get.ensures c.get-2.ensures (started c.into_iter-k-iterator.ensures.into_iter_gives c.bitand.ensures) in
+    head_end _ _ _ o.rows (few o) _ (head_walked _ _ _ _ o.rows says) _ c.in-None.ensures.steps.0 c.loop-k.invariant.1.1

@@ -8,8 +8,5 @@ use Rattle.sets_of_rows.specs.Walk.{Walk}
 use Rattle.sets_sequences.specs.Heads.{HeadedTo}
 use Rattle.sets_sequences.proofs.add_head.Given as goal
 
-abbrev pub invariant-loop-left : goal.invariant-loop-left
-invariant-loop-left l = (length l.w ≡ length l.initial.w) × (Walk l.initial.left l.left × HeadedTo (table_in l.t l.n) l.n l.h (next l.left) l.initial.w l.w)
-
-abbrev pub decreases-loop-left : goal.decreases-loop-left
-decreases-loop-left l = ROWS - next l.left
+abbrev pub invariant-loop-k : goal.invariant-loop-k
+invariant-loop-k l = (length l.w ≡ length l.initial.w) × (Walk l.initial.k-iterator.left l.k-iterator.left × HeadedTo (table_in l.t l.n) l.n l.h (next l.k-iterator.left) l.initial.w l.w)

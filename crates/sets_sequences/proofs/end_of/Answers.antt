@@ -1,3 +1,4 @@
+use Rattle.sets_of_rows.specs.Rows.{started}
 use mathlib.Core.Path.{sym, ◌∙◌}
 use native.Mathlib.Omega.{arith}
 use Rattle.model.specs.Table.{decode}
@@ -16,32 +17,23 @@ pub get-requires-2 : goal.get-requires-2
 get-requires-2 c =
     let a = c.requires.1.opened.space in omega arith
 
-pub loop-left-init : goal.loop-left-init
+pub loop-z-init : goal.loop-z-init
 unfolding decode
-loop-left-init c =
+loop-z-init c =
     let o = c.requires.1.opened in
-    end_begin _ _ _ (ends_walked _ _ _ _ o.rows (kind_rows o c.requires.2 _ 3 _ _ _ c.requires.0 (omega arith) c.get.ensures c.get-2.ensures c.and-left.ensures))
-
-pub first-z-requires : goal.first-z-requires
-first-z-requires c = sym c.some.ensures ∙ c.loop-left-test.true
-
-pub but_first-left-requires : goal.but_first-left-requires
-but_first-left-requires c = sym c.some.ensures ∙ c.loop-left-test.true
+    end_begin _ _ _ (ends_walked _ _ _ _ o.rows (kind_rows o c.requires.2 _ 3 _ _ _ c.requires.0 (omega arith) c.get.ensures c.get-2.ensures (started c.into_iter-z-iterator.ensures.into_iter_gives c.bitand.ensures)))
 
 pub rank-requires : goal.rank-requires
-rank-requires c = c.first-z.ensures.bound
+rank-requires c = c.in-Some.ensures.steps.0.bound
 
-pub loop-left-smaller : goal.loop-left-smaller
-loop-left-smaller c = walk_less c.first-z.ensures c.but_first-left.ensures
-
-pub loop-left-preserved : goal.loop-left-preserved
+pub loop-z-preserved : goal.loop-z-preserved
 unfolding decode
-loop-left-preserved c =
+loop-z-preserved c =
     let pre = c.requires in
     let o = pre.1.opened in
-    let says = kind_rows o pre.2 _ 3 _ _ _ pre.0 (omega arith) c.get.ensures c.get-2.ensures c.and-left.ensures in
-    let m = ends_member _ _ _ _ o.rows says _ (walk_in c.loop-left.invariant.0 c.first-z.ensures) in
-    end_turn _ _ _ (ends_walked _ _ _ _ o.rows says) _ _ c.loop-left.invariant c.first-z.ensures c.but_first-left.ensures m.0 m.1
+    let says = kind_rows o pre.2 _ 3 _ _ _ pre.0 (omega arith) c.get.ensures c.get-2.ensures (started c.into_iter-z-iterator.ensures.into_iter_gives c.bitand.ensures) in
+    let m = ends_member _ _ _ _ o.rows says _ (walk_in c.loop-z.invariant.0 c.in-Some.ensures.steps.0) in
+    end_turn _ _ _ (ends_walked _ _ _ _ o.rows says) _ _ c.loop-z.invariant c.in-Some.ensures.steps.0 c.in-Some.ensures.steps.1 m.0 m.1
     (since_is _ _ _ c.counted-counted.ensures c.rank.ensures c.rank-rank.ensures c.since-k.ensures.0) c.since-k.ensures.1 c.lower-end.ensures.0 c.lower-end.ensures.1
 
 pub returns : goal.returns
@@ -49,4 +41,4 @@ unfolding decode
 returns c =
     let pre = c.requires in
     let o = pre.1.opened in
-    end_done _ _ _ (ends_walked _ _ _ _ o.rows (kind_rows o pre.2 _ 3 _ _ _ pre.0 (omega arith) c.get.ensures c.get-2.ensures c.and-left.ensures)) _ o.fit.few (sym c.some.ensures ∙ c.loop-left-test.false) c.loop-left.invariant.1
+    end_done _ _ _ (ends_walked _ _ _ _ o.rows (kind_rows o pre.2 _ 3 _ _ _ pre.0 (omega arith) c.get.ensures c.get-2.ensures (started c.into_iter-z-iterator.ensures.into_iter_gives c.bitand.ensures))) _ o.fit.few c.in-None.ensures.steps.0 c.loop-z.invariant.1

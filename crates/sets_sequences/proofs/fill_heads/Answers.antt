@@ -17,22 +17,16 @@ pub rows-left-requires : goal.rows-left-requires
 rows-left-requires c =
     let a = c.requires.0.opened.space in omega arith
 
-pub loop-left-init : goal.loop-left-init
-loop-left-init c =
+pub loop-h-init : goal.loop-h-init
+loop-h-init c =
     let o = c.requires.0.opened in
     let small = few o in
-    (within_refl _ _ _, heads_begin _ _ small _ (rows_at c.rows-left.ensures (says_rows o.known.tested.kinds.ranked)) (λ k j l. cleared HEADS _ (search rules) c.clear.ensures k j (omega arith)))
-
-pub first-h-requires : goal.first-h-requires
-first-h-requires c = sym c.some.ensures ∙ c.loop-left-test.true
-
-pub but_first-left-requires : goal.but_first-left-requires
-but_first-left-requires c = sym c.some.ensures ∙ c.loop-left-test.true
+    (within_refl _ _ _, heads_begin _ _ small _ (rows_at (c.into_iter-h-iterator.ensures.into_iter_gives ∙ c.rows.ensures) (says_rows o.known.tested.kinds.ranked)) (λ k j l. cleared HEADS _ (search rules) c.clear.ensures k j (omega arith)))
 
 pub put_bit-requires : goal.put_bit-requires
 put_bit-requires c =
-    let b = c.first-h.ensures.bound in
-    let f = within_trans (within_cleared HEADS HEADS_END (omega arith) c.clear.ensures) c.loop-left.invariant.0 in
+    let b = c.in-Some.ensures.steps.0.bound in
+    let f = within_trans (within_cleared HEADS HEADS_END (omega arith) c.clear.ensures) c.loop-h.invariant.0 in
     let e = f.len in
     let r = c.requires.0.room in
     (omega arith, b)
@@ -42,9 +36,9 @@ end_of-end-requires c =
     let pre = c.requires in
     let o = pre.0.opened in
     let small = few o in
-    let b = c.first-h.ensures.bound in
-    let m = member_in _ (rows_at c.rows-left.ensures (says_rows o.known.tested.kinds.ranked)) (walk_in c.loop-left.invariant.1.0 c.first-h.ensures) in
-    let f = within_trans (within_trans (within_cleared HEADS HEADS_END (omega arith) c.clear.ensures) c.loop-left.invariant.0) (within_widen HEADS HEADS_END (omega arith) (omega arith) c.put_bit.ensures.frame) in
+    let b = c.in-Some.ensures.steps.0.bound in
+    let m = member_in _ (rows_at (c.into_iter-h-iterator.ensures.into_iter_gives ∙ c.rows.ensures) (says_rows o.known.tested.kinds.ranked)) (walk_in c.loop-h.invariant.1.0 c.in-Some.ensures.steps.0) in
+    let f = within_trans (within_trans (within_cleared HEADS HEADS_END (omega arith) c.clear.ensures) c.loop-h.invariant.0) (within_widen HEADS HEADS_END (omega arith) (omega arith) c.put_bit.ensures.frame) in
     (m.0, given_kept f pre.0, grid_kept (λ h. absurd (omega arith)) f pre.1)
 
 pub add_head-requires : goal.add_head-requires
@@ -52,33 +46,29 @@ add_head-requires c =
     let pre = c.requires in
     let o = pre.0.opened in
     let small = few o in
-    let b = c.first-h.ensures.bound in
-    let m = member_in _ (rows_at c.rows-left.ensures (says_rows o.known.tested.kinds.ranked)) (walk_in c.loop-left.invariant.1.0 c.first-h.ensures) in
-    let f = within_trans (within_trans (within_cleared HEADS HEADS_END (omega arith) c.clear.ensures) c.loop-left.invariant.0) (within_widen HEADS HEADS_END (omega arith) (omega arith) c.put_bit.ensures.frame) in
+    let b = c.in-Some.ensures.steps.0.bound in
+    let m = member_in _ (rows_at (c.into_iter-h-iterator.ensures.into_iter_gives ∙ c.rows.ensures) (says_rows o.known.tested.kinds.ranked)) (walk_in c.loop-h.invariant.1.0 c.in-Some.ensures.steps.0) in
+    let f = within_trans (within_trans (within_cleared HEADS HEADS_END (omega arith) c.clear.ensures) c.loop-h.invariant.0) (within_widen HEADS HEADS_END (omega arith) (omega arith) c.put_bit.ensures.frame) in
     let bytes = rw c.rows_of.ensures at c.first_byte.ensures in
     (record { low = m.0; ends = c.end_of-end.ensures; ranks = ranks_of _ _ _ _ bytes }, given_kept f pre.0, grid_kept (λ h. absurd (omega arith)) f pre.1)
 
-pub loop-left-smaller : goal.loop-left-smaller
-loop-left-smaller c =
-    walk_less c.first-h.ensures c.but_first-left.ensures
-
-pub loop-left-preserved : goal.loop-left-preserved
-loop-left-preserved c =
+pub loop-h-preserved : goal.loop-h-preserved
+loop-h-preserved c =
     let o = c.requires.0.opened in
-    let b = c.first-h.ensures.bound in
-    let inv = c.loop-left.invariant in
+    let b = c.in-Some.ensures.steps.0.bound in
+    let inv = c.loop-h.invariant in
     let put = c.put_bit.ensures in
     let add = c.add_head.ensures in (
       within_trans (within_trans inv.0 (within_widen HEADS HEADS_END (omega arith) (omega arith) put.frame)) add.frame,
-      heads_turn _ _ (few o) _ (rows_at c.rows-left.ensures (says_rows o.known.tested.kinds.ranked)) inv.1 c.first-h.ensures c.but_first-left.ensures put add,
+      heads_turn _ _ (few o) _ (rows_at (c.into_iter-h-iterator.ensures.into_iter_gives ∙ c.rows.ensures) (says_rows o.known.tested.kinds.ranked)) inv.1 c.in-Some.ensures.steps.0 c.in-Some.ensures.steps.1 put add,
     )
 
 pub shape_of-w : goal.shape_of-w
 shape_of-w c =
-    let f = within_trans (within_cleared HEADS HEADS_END (omega arith) c.clear.ensures) c.loop-left.invariant.0 in
+    let f = within_trans (within_cleared HEADS HEADS_END (omega arith) c.clear.ensures) c.loop-h.invariant.0 in
     f.len
 
 pub returns : goal.returns
 returns c =
     let o = c.requires.0.opened in
-    heads_end _ _ (few o) _ (rows_at c.rows-left.ensures (says_rows o.known.tested.kinds.ranked)) _ (sym c.some.ensures ∙ c.loop-left-test.false) c.loop-left.invariant.1.1 (within_trans (within_cleared HEADS HEADS_END (omega arith) c.clear.ensures) c.loop-left.invariant.0)
+    heads_end _ _ (few o) _ (rows_at (c.into_iter-h-iterator.ensures.into_iter_gives ∙ c.rows.ensures) (says_rows o.known.tested.kinds.ranked)) _ c.in-None.ensures.steps.0 c.loop-h.invariant.1.1 (within_trans (within_cleared HEADS HEADS_END (omega arith) c.clear.ensures) c.loop-h.invariant.0)

@@ -8,8 +8,5 @@ use Rattle.sets_grids.specs.Regions.{HEADS, HEADS_END}
 use Rattle.sets_sequences.specs.Heads.{HeadsTo}
 use Rattle.sets_sequences.proofs.fill_heads.Given as goal
 
-abbrev pub invariant-loop-left : goal.invariant-loop-left
-invariant-loop-left l = Within HEADS HEADS_END l.initial.w l.w × (Walk l.initial.left l.left × HeadsTo (table_in l.t l.n) l.n (next l.left) l.w)
-
-abbrev pub decreases-loop-left : goal.decreases-loop-left
-decreases-loop-left l = ROWS - next l.left
+abbrev pub invariant-loop-h : goal.invariant-loop-h
+invariant-loop-h l = Within HEADS HEADS_END l.initial.w l.w × (Walk l.initial.h-iterator.left l.h-iterator.left × HeadsTo (table_in l.t l.n) l.n (next l.h-iterator.left) l.w)

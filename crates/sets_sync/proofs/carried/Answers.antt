@@ -60,4 +60,4 @@ returns c =
     let o = pre.1.opened in
     let e = c.has.ensures ∙ rows_in_lem (rows_at c.rows.ensures (says_rows o.known.tested.kinds.barrier)) _ pre.0 in
     let m = c.of_classes-classes.ensures in
-    carried_after o pre.2 _ _ _ _ _ _ _ (sym e ∙ c.if-not-has.false) c.after.ensures c.rows-2.ensures c.and-writers.ensures (rw c.classes.ensures at m) c.and.ensures c.union.ensures
+    carried_after o pre.2 _ _ _ _ _ _ _ (sym e ∙ c.if-not-has.false) c.after.ensures c.rows-2.ensures c.bitand-writers.ensures (rw c.classes.ensures at m) c.bitand.ensures c.union.ensures

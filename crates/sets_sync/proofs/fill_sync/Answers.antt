@@ -19,36 +19,26 @@ pub rows-left-requires : goal.rows-left-requires
 rows-left-requires c =
     let a = c.requires.0.opened.space in omega arith
 
-pub loop-left-init : goal.loop-left-init
-loop-left-init c = (refl, fill_begin _ _ _ _ (search rules) c.clear.ensures)
-
-pub first-a-requires : goal.first-a-requires
-first-a-requires c = sym c.some.ensures ∙ c.loop-left-test.true
-
-pub but_first-left-requires : goal.but_first-left-requires
-but_first-left-requires c = sym c.some.ensures ∙ c.loop-left-test.true
+pub loop-a-init : goal.loop-a-init
+loop-a-init c = (refl, fill_begin _ _ _ _ (search rules) c.clear.ensures)
 
 pub sync_row-x-requires : goal.sync_row-x-requires
 unfolding decode
 sync_row-x-requires c =
     let pre = c.requires in
     let o = pre.0.opened in
-    let m = member_in _ (rows_at c.rows-left.ensures (says_rows o.known.tested.orders.releases)) (walk_in c.loop-left.invariant.1.walk c.first-a.ensures) in
-    let f = within_trans (within_cleared SYNC SYNC_END (omega arith) c.clear.ensures) c.loop-left.invariant.1.frame in
+    let m = member_in _ (rows_at (c.into_iter-a-iterator.ensures.into_iter_gives ∙ c.rows.ensures) (says_rows o.known.tested.orders.releases)) (walk_in c.loop-a.invariant.1.walk c.in-Some.ensures.steps.0) in
+    let f = within_trans (within_cleared SYNC SYNC_END (omega arith) c.clear.ensures) c.loop-a.invariant.1.frame in
     (record { low = m.0; is = m.1 }, given_kept f pre.0, record { taken = grid_kept (λ h. omega arith) f pre.1.taken; passed = grid_kept (λ h. omega arith) f pre.1.passed })
 
-pub loop-left-smaller : goal.loop-left-smaller
-loop-left-smaller c =
-    walk_less c.first-a.ensures c.but_first-left.ensures
-
-pub loop-left-preserved : goal.loop-left-preserved
-loop-left-preserved c =
-    let inv = c.loop-left.invariant in
+pub loop-a-preserved : goal.loop-a-preserved
+loop-a-preserved c =
+    let inv = c.loop-a.invariant in
     let put = c.put.ensures in
-    (put.frame.len ∙ inv.0, fill_turn _ _ _ _ inv.1 c.first-a.ensures c.but_first-left.ensures c.sync_row-x.ensures.is put)
+    (put.frame.len ∙ inv.0, fill_turn _ _ _ _ inv.1 c.in-Some.ensures.steps.0 c.in-Some.ensures.steps.1 c.sync_row-x.ensures.is put)
 
 pub returns : goal.returns
 returns c =
     let o = c.requires.0.opened in
-    filled_made _ (few o) (rows_at c.rows-left.ensures (says_rows o.known.tested.orders.releases)) (λ i j l m e. sync_only _ i j e)
-    (fill_end _ _ _ _ c.clear.ensures (sym c.some.ensures ∙ c.loop-left-test.false) c.loop-left.invariant.1)
+    filled_made _ (few o) (rows_at (c.into_iter-a-iterator.ensures.into_iter_gives ∙ c.rows.ensures) (says_rows o.known.tested.orders.releases)) (λ i j l m e. sync_only _ i j e)
+    (fill_end _ _ _ _ c.clear.ensures c.in-None.ensures.steps.0 c.loop-a.invariant.1)

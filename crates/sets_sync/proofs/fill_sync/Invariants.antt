@@ -11,8 +11,5 @@ use Rattle.model.specs.Synchronizes.{synchronizes}
 use Rattle.work_area.specs.Regions.{SYNC}
 use Rattle.sets_sync.proofs.fill_sync.Given as goal
 
-abbrev pub invariant-loop-left : goal.invariant-loop-left
-invariant-loop-left l = (length l.w ≡ length l.initial.w) × Filling SYNC l.initial.left (λ i j. ltb j l.n and synchronizes (table_in l.t l.n) i j) l.initial.w l.left l.w
-
-abbrev pub decreases-loop-left : goal.decreases-loop-left
-decreases-loop-left l = ROWS - next l.left
+abbrev pub invariant-loop-a : goal.invariant-loop-a
+invariant-loop-a l = (length l.w ≡ length l.initial.w) × Filling SYNC l.initial.a-iterator.left (λ i j. ltb j l.n and synchronizes (table_in l.t l.n) i j) l.initial.w l.a-iterator.left l.w

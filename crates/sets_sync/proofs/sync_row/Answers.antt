@@ -18,12 +18,12 @@ pub together-requires : goal.together-requires
 together-requires c =
     (c.requires.0.low, c.requires.1.opened)
 
-pub drop-requires : goal.drop-requires
-drop-requires c =
+pub without-requires : goal.without-requires
+without-requires c =
     let b = few c.requires.1.opened in omega (arith, c.requires.0.low)
 
 pub returns : goal.returns
 unfolding decode
 returns c =
     let pre = c.requires in
-    sync_rows pre.1.opened pre.2.passed _ _ _ _ _ _ _ _ _ pre.0.low pre.0.is c.carried.ensures c.get.ensures c.or-to.ensures c.rows.ensures c.and-acquires.ensures c.together.ensures c.and.ensures c.drop.ensures
+    sync_rows pre.1.opened pre.2.passed _ _ _ _ _ _ _ _ _ pre.0.low pre.0.is c.carried.ensures c.get.ensures c.bitor-to.ensures c.rows.ensures c.bitand-acquires.ensures c.together.ensures c.bitand.ensures c.without.ensures

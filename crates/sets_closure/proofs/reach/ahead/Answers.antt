@@ -8,4 +8,4 @@ use Rattle.sets_closure.proofs.reach.ahead.Goals as goal
 pub returns : goal.returns
 returns c =
     let a = c.args in
-    λ y. c.less.ensures y ∙ ap (λ (b : Bool). b and not (in_set a.seen y)) (c.and.ensures y ∙ ap (λ (s : Set). in_set s y and in_set a.nodes y) c.get.ensures)
+    λ y. c.sub.ensures y ∙ ap (λ (b : Bool). b and not (in_set a.seen y)) (c.bitand.ensures y ∙ ap (λ (s : Set). in_set s y and in_set a.nodes y) c.get.ensures)

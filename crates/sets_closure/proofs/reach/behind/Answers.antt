@@ -7,5 +7,5 @@ use Rattle.sets_closure.proofs.reach.behind.Goals as goal
 
 pub returns : goal.returns
 returns c =
-    λ y. c.or.ensures y ∙ ap₂ ◌or◌ (c.bit.ensures y)
+    λ y. c.bitor.ensures y ∙ ap₂ ◌or◌ (c.bit.ensures y)
     (c.only_if.ensures y ∙ ap₂ (λ (b : Bool) (s : Set). not b and in_set s y) c.has.ensures c.get.ensures)

@@ -16,13 +16,13 @@ pub search-requires : goal.search-requires
 search-requires c =
     let a = c.turn-h.ensures.1 in let d = c.loop-i.invariant.1.frame.len in (omega (arith, c.requires.0), omega (arith, c.requires.1))
 
-pub drop-waiting-requires : goal.drop-waiting-requires
-drop-waiting-requires c =
+pub without-waiting-requires : goal.without-waiting-requires
+without-waiting-requires c =
     let a = c.turn-h.ensures.1 in omega (arith, c.requires.0)
 
 pub loop-i-preserved : goal.loop-i-preserved
 loop-i-preserved c =
-    (search rules, close_turn _ _ _ c.loop-i-test.true c.turn-h.ensures.0 c.has.ensures c.if-not-has.false c.loop-i.invariant.1 c.search.ensures c.drop-waiting.ensures)
+    (search rules, close_turn _ _ _ c.loop-i-test.true c.turn-h.ensures.0 c.has.ensures c.if-not-has.false c.loop-i.invariant.1 c.search.ensures c.without-waiting.ensures)
 
 pub shape_of-w : goal.shape_of-w
 shape_of-w c = c.loop-i.invariant.1.frame.len

@@ -26,4 +26,4 @@ get-requires-2 c =
 
 pub returns : goal.returns
 returns c =
-    λ d ends q. direct_rows q _ c.requires.0 _ _ _ _ _ _ _ _ _ _ _ _ _ _ _ c.after-after.ensures c.has.ensures c.get.ensures c.and.ensures c.only_if-sync.ensures c.has-2.ensures c.and-2.ensures c.only_if-releases.ensures c.has-3.ensures c.and-3.ensures c.only_if-taking.ensures c.or.ensures c.get-2.ensures c.or-2.ensures c.or-3.ensures
+    λ d ends q. direct_rows q _ c.requires.0 _ _ _ _ _ _ _ _ _ _ _ _ _ _ _ c.after-after.ensures c.has.ensures c.get.ensures c.bitand.ensures c.only_if-sync.ensures c.has-2.ensures c.bitand-2.ensures c.only_if-releases.ensures c.has-3.ensures c.bitand-3.ensures c.only_if-taking.ensures c.bitor.ensures c.get-2.ensures c.bitor-2.ensures c.bitor-3.ensures

@@ -8,26 +8,20 @@ use Rattle.sets_closure.proofs.reach.put_all_direct.Goals as goal
 pub loop-k-init : goal.loop-k-init
 loop-k-init c = (within_refl _ _ _, put_begin _ _ _ _)
 
-pub first-h-requires : goal.first-h-requires
-first-h-requires c = sym c.some.ensures ∙ c.loop-k-test.true
-
-pub but_first-left-requires : goal.but_first-left-requires
-but_first-left-requires c = sym c.some.ensures ∙ c.loop-k-test.true
-
 pub put_direct-requires : goal.put_direct-requires
 put_direct-requires c =
-    (c.requires.0 _ (walk_in c.loop-k.invariant.1.0 c.first-h.ensures), given_kept c.loop-k.invariant.0 c.requires.1)
+    (c.requires.0 _ (walk_in c.loop-k.invariant.1.0 c.in-Some.ensures.steps.0), given_kept c.loop-k.invariant.0 c.requires.1)
 
 pub loop-k-smaller : goal.loop-k-smaller
 loop-k-smaller c =
-    walk_less c.first-h.ensures c.but_first-left.ensures
+    walk_less c.in-Some.ensures.steps.0 c.in-Some.ensures.steps.1
 
 pub loop-k-preserved : goal.loop-k-preserved
 loop-k-preserved c =
-    (within_trans c.loop-k.invariant.0 c.put_direct.ensures.kept.frame, put_turn c.loop-k.invariant.0 c.loop-k.invariant.1 c.first-h.ensures c.but_first-left.ensures c.put_direct.ensures)
+    (within_trans c.loop-k.invariant.0 c.put_direct.ensures.kept.frame, put_turn c.loop-k.invariant.0 c.loop-k.invariant.1 c.in-Some.ensures.steps.0 c.in-Some.ensures.steps.1 c.put_direct.ensures)
 
 pub shape_of-w : goal.shape_of-w
 shape_of-w c = c.loop-k.invariant.0.len
 
 pub returns : goal.returns
-returns c = put_end _ (sym c.some.ensures ∙ c.loop-k-test.false) c.loop-k.invariant.1.1 c.loop-k.invariant.0
+returns c = put_end _ (sym c.has_any.ensures ∙ c.loop-k-test.false) c.loop-k.invariant.1.1 c.loop-k.invariant.0

@@ -9,7 +9,7 @@ use Rattle.sets_closure.specs.Reaching.{Putting}
 use Rattle.sets_closure.proofs.reach.put_all_direct.Given as goal
 
 abbrev pub invariant-loop-k : goal.invariant-loop-k
-invariant-loop-k l = Within REACH_AT REACH_END l.initial.w l.w × (Walk l.k.nodes l.left × Putting (table_in l.t l.n) l.n l.k l.initial.w (next l.left) l.w)
+invariant-loop-k l = Within REACH_AT REACH_END l.initial.w l.w × (Walk l.k.nodes l.h-iterator.left × Putting (table_in l.t l.n) l.n l.k l.initial.w (next l.h-iterator.left) l.w)
 
 abbrev pub decreases-loop-k : goal.decreases-loop-k
-decreases-loop-k l = ROWS - next l.left
+decreases-loop-k l = ROWS - next l.h-iterator.left

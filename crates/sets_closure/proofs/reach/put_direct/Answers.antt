@@ -39,5 +39,5 @@ returns c =
     let a = given_few c.requires.1 in
     let l = c.requires.0 in
     put_direct_is _ _ _ _ (omega arith) c.direct-to.ensures
-    (λ d ends q. own_rows q _ c.requires.0 _ _ _ _ _ _ _ c.has-acquires.ensures c.onward-onward.ensures c.after-after.ensures c.and.ensures c.only_if-visible.ensures c.and-2.ensures c.only_if-available.ensures)
+    (λ d ends q. own_rows q _ c.requires.0 _ _ _ _ _ _ _ c.has-acquires.ensures c.onward-onward.ensures c.after-after.ensures c.bitand.ensures c.only_if-visible.ensures c.bitand-2.ensures c.only_if-available.ensures)
     c.put.ensures c.put-2.ensures c.put-3.ensures

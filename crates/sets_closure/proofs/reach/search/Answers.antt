@@ -7,7 +7,7 @@ pub loop-nodes-init : goal.loop-nodes-init
 loop-nodes-init c = see_begin _ _ _ _ _ _ c.none-seen.ensures c.ahead-left.ensures
 
 pub first-j-requires : goal.first-j-requires
-first-j-requires c = sym c.some.ensures ∙ c.loop-nodes-test.true
+first-j-requires c = sym c.has_any.ensures ∙ c.loop-nodes-test.true
 
 pub take_in-requires : goal.take_in-requires
 take_in-requires c =
@@ -23,14 +23,14 @@ ahead-left-requires-in-loop-nodes c =
 
 pub loop-nodes-smaller : goal.loop-nodes-smaller
 loop-nodes-smaller c =
-    see_less _ _ _ c.loop-nodes.invariant c.first-j.ensures c.behind.ensures c.or-seen.ensures
+    see_less _ _ _ c.loop-nodes.invariant c.first-j.ensures c.behind.ensures c.bitor-seen.ensures
 
 pub loop-nodes-preserved : goal.loop-nodes-preserved
 loop-nodes-preserved c =
-    see_turn _ _ _ c.loop-nodes.invariant c.first-j.ensures c.take_in.ensures c.behind.ensures c.or-seen.ensures c.ahead-left-in-loop-nodes.ensures
+    see_turn _ _ _ c.loop-nodes.invariant c.first-j.ensures c.take_in.ensures c.behind.ensures c.bitor-seen.ensures c.ahead-left-in-loop-nodes.ensures
 
 pub shape_of-w : goal.shape_of-w
 shape_of-w c = c.loop-nodes.invariant.kept.frame.len
 
 pub returns : goal.returns
-returns c = see_end _ _ (sym c.some.ensures ∙ c.loop-nodes-test.false) c.loop-nodes.invariant
+returns c = see_end _ _ (sym c.has_any.ensures ∙ c.loop-nodes-test.false) c.loop-nodes.invariant

@@ -6,8 +6,5 @@ use Rattle.sets_of_rows.specs.Walk.{Walk}
 use Rattle.sets_location.specs.Elements.{BitsTo, byte_to}
 use Rattle.sets_location.proofs.part.bytes_at_once.Given as goal
 
-abbrev pub invariant-loop-left : goal.invariant-loop-left
-invariant-loop-left l = Walk l.initial.left l.left × BitsTo (byte_to (table_in l.t l.n) l.w l.x l.y l.initial.left) l.m (next l.left)
-
-abbrev pub decreases-loop-left : goal.decreases-loop-left
-decreases-loop-left l = ROWS - next l.left
+abbrev pub invariant-loop-a : goal.invariant-loop-a
+invariant-loop-a l = Walk l.initial.a-iterator.left l.a-iterator.left × BitsTo (byte_to (table_in l.t l.n) l.w l.x l.y l.initial.a-iterator.left) l.m (next l.a-iterator.left)

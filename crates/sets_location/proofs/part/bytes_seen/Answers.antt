@@ -19,8 +19,8 @@ unfolding decode
 wide_visible-requires c =
     let b = few c.requires.1.given.opened in let r = c.requires.1.given.opened.rows in let low = c.requires.0.pair.first.low in (omega (arith, low, b), c.requires.1.given.opened.fit.classed _ (omega (arith, low, r)) c.requires.0.pair.first.is, c.requires.1.given.opened.space)
 
-pub drop-wide-requires : goal.drop-wide-requires
-drop-wide-requires c =
+pub without-wide-requires : goal.without-wide-requires
+without-wide-requires c =
     let b = few c.requires.1.given.opened in let low = c.requires.0.pair.second.low in omega (arith, low, b)
 
 pub plain_visible-requires : goal.plain_visible-requires
@@ -29,47 +29,41 @@ plain_visible-requires c =
 
 pub bytes_of-m-requires : goal.bytes_of-m-requires
 bytes_of-m-requires c =
-    (c.requires.0.pair.first.low, wide_among c.requires.1.given.opened _ c.requires.0.pair.first.low c.requires.0.pair.first.is c.requires.2 _ _ c.and-2.ensures, c.requires.1.given.opened.fit)
+    (c.requires.0.pair.first.low, wide_among c.requires.1.given.opened _ c.requires.0.pair.first.low c.requires.0.pair.first.is c.requires.2 _ _ c.bitand-2.ensures, c.requires.1.given.opened.fit)
 
 pub loop-wide-init : goal.loop-wide-init
 loop-wide-init c = more_begin _ _ _ (seen_off _ _ _ _ _ _) _ (mask_self c.bytes_of-m.ensures)
 
-pub first-a-requires : goal.first-a-requires
-first-a-requires c = sym c.some.ensures ∙ c.loop-wide-test.true
-
-pub but_first-left-requires : goal.but_first-left-requires
-but_first-left-requires c = sym c.some.ensures ∙ c.loop-wide-test.true
-
 pub shared-own-requires : goal.shared-own-requires
 shared-own-requires c =
-    (c.requires.0.pair.first.low, (member_in _ c.requires.2.parts (walk_in c.loop-wide.invariant.0 c.first-a.ensures)).0, c.requires.1.given.opened.fit)
+    (c.requires.0.pair.first.low, (member_in _ c.requires.2.parts (walk_in c.loop-wide.invariant.0 c.in-Some.ensures.steps.0)).0, c.requires.1.given.opened.fit)
 
 pub get-visible-requires : goal.get-visible-requires
 get-visible-requires c =
-    let r = c.requires.1.given.room in let l = c.first-a.ensures.bound in omega (arith, r, l)
+    let r = c.requires.1.given.room in let l = c.in-Some.ensures.steps.0.bound in omega (arith, r, l)
 
 pub loop-wide-smaller-then-some : goal.loop-wide-smaller-then-some
 loop-wide-smaller-then-some c =
-    walk_less c.first-a.ensures c.but_first-left.ensures
+    walk_less c.in-Some.ensures.steps.0 c.in-Some.ensures.steps.1
 
 pub loop-wide-preserved-then-some : goal.loop-wide-preserved-then-some
 loop-wide-preserved-then-some c =
-    more_turn _ _ _ (seen_off _ _ _ _ _ _) c.loop-wide.invariant c.first-a.ensures c.but_first-left.ensures (seen_wide _ _ _ _ _ _ _ c.get-visible.ensures _ _ c.and-in-loop-wide.ensures c.some-in-loop-wide.ensures c.if-some.true c.shared-own.ensures)
+    more_turn _ _ _ (seen_off _ _ _ _ _ _) c.loop-wide.invariant c.in-Some.ensures.steps.0 c.in-Some.ensures.steps.1 (seen_wide _ _ _ _ _ _ _ c.get-visible.ensures _ _ c.bitand-in-loop-wide.ensures c.has_any-in-loop-wide.ensures c.if-some.true c.shared-own.ensures)
 
 pub bytes_of-requires : goal.bytes_of-requires
 unfolding decode
 bytes_of-requires c =
-    (c.requires.0.pair.first.low, plain_among _ _ (upto_sets c.requires.1.given.opened _ _ c.requires.0.pair.first.low c.requires.0.pair.first.is _ _ _ _ _ _ _ _ c.of_agent.ensures c.above.ensures c.less-upto.ensures c.wide_visible.ensures c.and.ensures c.drop-wide.ensures c.plain_visible.ensures c.and-plain.ensures) c.and-else-some.ensures, c.requires.1.given.opened.fit)
+    (c.requires.0.pair.first.low, plain_among _ _ (upto_sets c.requires.1.given.opened _ _ c.requires.0.pair.first.low c.requires.0.pair.first.is _ _ _ _ _ _ _ _ c.of_agent.ensures c.above.ensures c.sub-upto.ensures c.wide_visible.ensures c.bitand.ensures c.without-wide.ensures c.plain_visible.ensures c.bitand-plain.ensures) c.bitand-else-some.ensures, c.requires.1.given.opened.fit)
 
 pub loop-wide-smaller : goal.loop-wide-smaller
 loop-wide-smaller c =
-    walk_less c.first-a.ensures c.but_first-left.ensures
+    walk_less c.in-Some.ensures.steps.0 c.in-Some.ensures.steps.1
 
 pub loop-wide-preserved : goal.loop-wide-preserved
 loop-wide-preserved c =
-    more_turn _ _ _ (seen_off _ _ _ _ _ _) c.loop-wide.invariant c.first-a.ensures c.but_first-left.ensures (seen_part _ _ _ _ _ _ _ c.get-visible.ensures _ _ _ c.and-in-loop-wide.ensures c.some-in-loop-wide.ensures c.if-some.false c.and-else-some.ensures c.shared-own.ensures c.bytes_of.ensures)
+    more_turn _ _ _ (seen_off _ _ _ _ _ _) c.loop-wide.invariant c.in-Some.ensures.steps.0 c.in-Some.ensures.steps.1 (seen_part _ _ _ _ _ _ _ c.get-visible.ensures _ _ _ c.bitand-in-loop-wide.ensures c.has_any-in-loop-wide.ensures c.if-some.false c.bitand-else-some.ensures c.shared-own.ensures c.bytes_of.ensures)
 
 pub returns : goal.returns
 unfolding decode
 returns c =
-    seen_met c.requires.1.given.opened c.requires.1.locating _ _ c.requires.0.pair.first.low c.requires.0.pair.second.low c.requires.0.pair c.requires.2 c.requires.0.reading (upto_sets c.requires.1.given.opened _ _ c.requires.0.pair.first.low c.requires.0.pair.first.is _ _ _ _ _ _ _ _ c.of_agent.ensures c.above.ensures c.less-upto.ensures c.wide_visible.ensures c.and.ensures c.drop-wide.ensures c.plain_visible.ensures c.and-plain.ensures) _ c.and-2.ensures c.bytes_of-m.ensures (more_end _ _ _ (seen_off _ _ _ _ _ _) _ _ (sym c.some.ensures ∙ c.loop-wide-test.false) c.loop-wide.invariant.1)
+    seen_met c.requires.1.given.opened c.requires.1.locating _ _ c.requires.0.pair.first.low c.requires.0.pair.second.low c.requires.0.pair c.requires.2 c.requires.0.reading (upto_sets c.requires.1.given.opened _ _ c.requires.0.pair.first.low c.requires.0.pair.first.is _ _ _ _ _ _ _ _ c.of_agent.ensures c.above.ensures c.sub-upto.ensures c.wide_visible.ensures c.bitand.ensures c.without-wide.ensures c.plain_visible.ensures c.bitand-plain.ensures) _ c.bitand-2.ensures c.bytes_of-m.ensures (more_end _ _ _ (seen_off _ _ _ _ _ _) _ _ (sym c.has_any.ensures ∙ c.loop-wide-test.false) c.loop-wide.invariant.1)

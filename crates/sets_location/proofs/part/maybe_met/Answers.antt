@@ -20,7 +20,7 @@ wide_visible-requires c =
 
 pub seen-wide-requires : goal.seen-wide-requires
 seen-wide-requires c =
-    (visible_among c.requires.1.given.opened c.requires.1.locating _ c.requires.0.low c.requires.0.is c.requires.2 _ _ c.union-at.ensures c.union-visible.ensures _ _ c.and.ensures, c.requires.1.given.opened)
+    (visible_among c.requires.1.given.opened c.requires.1.locating _ c.requires.0.low c.requires.0.is c.requires.2 _ _ c.union-at.ensures c.union-visible.ensures _ _ c.bitand.ensures, c.requires.1.given.opened)
 
 pub plain_visible-requires : goal.plain_visible-requires
 plain_visible-requires c =
@@ -28,9 +28,9 @@ plain_visible-requires c =
 
 pub seen_plain-plain-requires : goal.seen_plain-plain-requires
 seen_plain-plain-requires c =
-    (either_among c.requires.1.given.opened c.requires.1.locating _ c.requires.0.low c.requires.0.is c.requires.2 _ _ c.union-at.ensures c.union-visible.ensures _ _ _ c.or.ensures c.and-by.ensures, c.requires.1.given.opened)
+    (either_among c.requires.1.given.opened c.requires.1.locating _ c.requires.0.low c.requires.0.is c.requires.2 _ _ c.union-at.ensures c.union-visible.ensures _ _ _ c.bitor.ensures c.bitand-by.ensures, c.requires.1.given.opened)
 
 pub returns : goal.returns
 unfolding decode
 returns c =
-    maybe_set c.requires.1.given.opened c.requires.1.locating _ c.requires.0.low c.requires.0.is c.requires.2 _ _ c.union-at.ensures c.union-visible.ensures _ _ _ _ _ _ _ _ _ _ _ _ c.rows-reads.ensures c.wide_visible.ensures c.and.ensures c.seen-wide.ensures c.or.ensures c.plain_visible.ensures c.and-by.ensures c.seen_plain-plain.ensures c.less.ensures c.or-2.ensures c.and-2.ensures c.or-3.ensures
+    maybe_set c.requires.1.given.opened c.requires.1.locating _ c.requires.0.low c.requires.0.is c.requires.2 _ _ c.union-at.ensures c.union-visible.ensures _ _ _ _ _ _ _ _ _ _ _ _ c.rows-reads.ensures c.wide_visible.ensures c.bitand.ensures c.seen-wide.ensures c.bitor.ensures c.plain_visible.ensures c.bitand-by.ensures c.seen_plain-plain.ensures c.sub.ensures c.bitor-2.ensures c.bitand-2.ensures c.bitor-3.ensures

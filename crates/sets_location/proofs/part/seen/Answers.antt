@@ -8,7 +8,7 @@ pub loop-left-init : goal.loop-left-init
 loop-left-init c = seeing_begin _ _ c.requires.1.rows false _ c.requires.0 c.none-all.ensures
 
 pub first-v-requires : goal.first-v-requires
-first-v-requires c = sym c.some.ensures ∙ c.loop-left-test.true
+first-v-requires c = sym c.has_any.ensures ∙ c.loop-left-test.true
 
 pub after-requires : goal.after-requires
 after-requires c =
@@ -20,12 +20,12 @@ of_agent-requires c =
 
 pub loop-left-smaller : goal.loop-left-smaller
 loop-left-smaller c =
-    seeing_less _ _ c.requires.1.rows false _ _ _ _ c.loop-left.invariant c.first-v.ensures (sees_after _ _ c.after.ensures) c.of_agent.ensures c.or-all.ensures c.less-left.ensures
+    seeing_less _ _ c.requires.1.rows false _ _ _ _ c.loop-left.invariant c.first-v.ensures (sees_after _ _ c.after.ensures) c.of_agent.ensures c.bitor-all.ensures c.sub-left.ensures
 
 pub loop-left-preserved : goal.loop-left-preserved
 loop-left-preserved c =
-    seeing_turn _ _ c.requires.1.rows false _ _ _ _ c.loop-left.invariant c.first-v.ensures (sees_after _ _ c.after.ensures) c.of_agent.ensures c.or-all.ensures c.less-left.ensures
+    seeing_turn _ _ c.requires.1.rows false _ _ _ _ c.loop-left.invariant c.first-v.ensures (sees_after _ _ c.after.ensures) c.of_agent.ensures c.bitor-all.ensures c.sub-left.ensures
 
 pub returns : goal.returns
 returns c =
-    seeing_end _ _ c.requires.1.rows false _ (few c.requires.1) (sym c.some.ensures ∙ c.loop-left-test.false) c.loop-left.invariant
+    seeing_end _ _ c.requires.1.rows false _ (few c.requires.1) (sym c.has_any.ensures ∙ c.loop-left-test.false) c.loop-left.invariant

@@ -7,4 +7,4 @@ get-class-requires c = let e = c.class.ensures in omega (arith, e, c.requires.1,
 
 pub returns : goal.returns
 returns c =
-    wide_shown_lem _ _ _ _ _ _ _ _ c.class.ensures c.get-class.ensures c.rows.ensures c.and.ensures c.rows-2.ensures c.less.ensures
+    wide_shown_lem _ _ _ _ _ _ _ _ c.class.ensures c.get-class.ensures c.rows.ensures c.bitand.ensures c.rows-2.ensures c.sub.ensures

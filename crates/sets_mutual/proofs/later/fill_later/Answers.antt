@@ -19,14 +19,8 @@ pub rows-left-requires : goal.rows-left-requires
 rows-left-requires c =
     let a = c.requires.0.opened.space in omega arith
 
-pub loop-left-init : goal.loop-left-init
-loop-left-init c = (refl, fill_begin _ _ _ _ (search rules) c.clear.ensures)
-
-pub first-i-requires : goal.first-i-requires
-first-i-requires c = sym c.some.ensures ∙ c.loop-left-test.true
-
-pub but_first-left-requires : goal.but_first-left-requires
-but_first-left-requires c = sym c.some.ensures ∙ c.loop-left-test.true
+pub loop-i-init : goal.loop-i-init
+loop-i-init c = (refl, fill_begin _ _ _ _ (search rules) c.clear.ensures)
 
 pub later_row-x-requires : goal.later_row-x-requires
 unfolding decode
@@ -34,22 +28,18 @@ later_row-x-requires c =
     let pre = c.requires in
     let o = pre.0.opened in
     let small = few o in
-    let m = member_in _ (rows_at c.rows-left.ensures (says_rows o.known.tested.kinds.ranked)) (walk_in c.loop-left.invariant.1.walk c.first-i.ensures) in
-    let f = within_trans (within_cleared LATER LATER_END (omega arith) c.clear.ensures) c.loop-left.invariant.1.frame in
+    let m = member_in _ (rows_at (c.into_iter-i-iterator.ensures.into_iter_gives ∙ c.rows.ensures) (says_rows o.known.tested.kinds.ranked)) (walk_in c.loop-i.invariant.1.walk c.in-Some.ensures.steps.0) in
+    let f = within_trans (within_cleared LATER LATER_END (omega arith) c.clear.ensures) c.loop-i.invariant.1.frame in
     (record { low = m.0; is = m.1 }, given_kept f pre.0, grid_kept (λ h. absurd (omega arith)) f pre.1)
 
-pub loop-left-smaller : goal.loop-left-smaller
-loop-left-smaller c =
-    walk_less c.first-i.ensures c.but_first-left.ensures
-
-pub loop-left-preserved : goal.loop-left-preserved
-loop-left-preserved c =
-    let inv = c.loop-left.invariant in
+pub loop-i-preserved : goal.loop-i-preserved
+loop-i-preserved c =
+    let inv = c.loop-i.invariant in
     let put = c.put.ensures in
-    (put.frame.len ∙ inv.0, fill_turn _ _ _ _ inv.1 c.first-i.ensures c.but_first-left.ensures c.later_row-x.ensures.is put)
+    (put.frame.len ∙ inv.0, fill_turn _ _ _ _ inv.1 c.in-Some.ensures.steps.0 c.in-Some.ensures.steps.1 c.later_row-x.ensures.is put)
 
 pub returns : goal.returns
 returns c =
     let o = c.requires.0.opened in
-    filled_made _ (few o) (rows_at c.rows-left.ensures (says_rows o.known.tested.kinds.ranked)) (λ i j l m e. later_only _ i j e)
-    (fill_end _ _ _ _ c.clear.ensures (sym c.some.ensures ∙ c.loop-left-test.false) c.loop-left.invariant.1)
+    filled_made _ (few o) (rows_at (c.into_iter-i-iterator.ensures.into_iter_gives ∙ c.rows.ensures) (says_rows o.known.tested.kinds.ranked)) (λ i j l m e. later_only _ i j e)
+    (fill_end _ _ _ _ c.clear.ensures c.in-None.ensures.steps.0 c.loop-i.invariant.1)

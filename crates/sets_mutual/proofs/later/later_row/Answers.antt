@@ -22,4 +22,4 @@ pub returns : goal.returns
 unfolding decode
 returns c =
     let pre = c.requires in
-    later_rows pre.1.opened pre.2 _ _ _ _ _ pre.0.low pre.0.is c.get.ensures c.rows.ensures c.and-writers.ensures c.later_than.ensures
+    later_rows pre.1.opened pre.2 _ _ _ _ _ pre.0.low pre.0.is c.get.ensures c.rows.ensures c.bitand-writers.ensures c.later_than.ensures

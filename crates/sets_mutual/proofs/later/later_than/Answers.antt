@@ -3,21 +3,12 @@ use Rattle.sets_of_rows.specs.Walk.{walk_less}
 use Rattle.sets_of_rows.specs.Sift.{sift_begin, sift_turn, sift_end}
 use Rattle.sets_mutual.proofs.later.later_than.Goals as goal
 
-pub loop-left-init : goal.loop-left-init
-loop-left-init c = sift_begin _ _ _ c.none-r.ensures
+pub loop-j-init : goal.loop-j-init
+loop-j-init c = sift_begin _ _ _ c.none-r.ensures
 
-pub first-j-requires : goal.first-j-requires
-first-j-requires c = sym c.some.ensures ∙ c.loop-left-test.true
-
-pub but_first-left-requires : goal.but_first-left-requires
-but_first-left-requires c = sym c.some.ensures ∙ c.loop-left-test.true
-
-pub loop-left-smaller : goal.loop-left-smaller
-loop-left-smaller c = walk_less c.first-j.ensures c.but_first-left.ensures
-
-pub loop-left-preserved : goal.loop-left-preserved
-loop-left-preserved c =
-    sift_turn _ _ _ c.loop-left.invariant c.first-j.ensures c.but_first-left.ensures c.is_after-b.ensures c.add_if-r.ensures
+pub loop-j-preserved : goal.loop-j-preserved
+loop-j-preserved c =
+    sift_turn _ _ _ c.loop-j.invariant c.in-Some.ensures.steps.0 c.in-Some.ensures.steps.1 c.is_after-b.ensures c.add_if-r.ensures
 
 pub returns : goal.returns
-returns c = sift_end _ _ _ _ (sym c.some.ensures ∙ c.loop-left-test.false) c.loop-left.invariant.1
+returns c = sift_end _ _ _ _ c.in-None.ensures.steps.0 c.loop-j.invariant.1

@@ -7,8 +7,5 @@ use Rattle.sets_of_rows.specs.Sift.{Sifted}
 use Rattle.sets_mutual.specs.Later.{later_rank}
 use Rattle.sets_mutual.proofs.later.later_than.Given as goal
 
-abbrev pub invariant-loop-left : goal.invariant-loop-left
-invariant-loop-left l = Walk l.initial.left l.left × Sifted l.initial.left (later_rank (table_in l.t l.n) l.i) l.r (next l.left)
-
-abbrev pub decreases-loop-left : goal.decreases-loop-left
-decreases-loop-left l = ROWS - next l.left
+abbrev pub invariant-loop-j : goal.invariant-loop-j
+invariant-loop-j l = Walk l.initial.j-iterator.left l.j-iterator.left × Sifted l.initial.j-iterator.left (later_rank (table_in l.t l.n) l.i) l.r (next l.j-iterator.left)

@@ -8,8 +8,5 @@ use Rattle.sets_of_rows.specs.Walk.{Walk}
 use Rattle.sets_of_table.specs.Number.{key_in, Numbered}
 use Rattle.sets_of_table.proofs.number.number.Given as goal
 
-abbrev pub invariant-loop-left : goal.invariant-loop-left
-invariant-loop-left l = (length l.keys ≡ length l.initial.keys) × (length l.loc ≡ length l.initial.loc) × (Walk l.initial.left l.left × Numbered (key_in l.whole (rows_in l.t)) l.initial.left (next l.left) l.keys l.loc l.l)
-
-abbrev pub decreases-loop-left : goal.decreases-loop-left
-decreases-loop-left l = ROWS - next l.left
+abbrev pub invariant-loop-i : goal.invariant-loop-i
+invariant-loop-i l = (length l.keys ≡ length l.initial.keys) × (length l.loc ≡ length l.initial.loc) × (Walk l.initial.i-iterator.left l.i-iterator.left × Numbered (key_in l.whole (rows_in l.t)) l.initial.i-iterator.left (next l.i-iterator.left) l.keys l.loc l.l)

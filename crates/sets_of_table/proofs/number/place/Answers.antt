@@ -6,39 +6,29 @@ use Rattle.sets_of_table.specs.Placed.{placed_begin, placed_turn, placed_end}
 use borrow.Author.Rules.{rules}
 use Rattle.sets_of_table.proofs.number.place.Goals as goal
 
-pub loop-left-init : goal.loop-left-init
-loop-left-init c = (refl, within_refl _ _ _, placed_begin _ _ _ _ _ (search rules) c.clear.ensures)
-
-pub first-i-requires : goal.first-i-requires
-first-i-requires c = sym c.some.ensures ∙ c.loop-left-test.true
-
-pub but_first-left-requires : goal.but_first-left-requires
-but_first-left-requires c = sym c.some.ensures ∙ c.loop-left-test.true
+pub loop-i-init : goal.loop-i-init
+loop-i-init c = (refl, within_refl _ _ _, placed_begin _ _ _ _ _ (search rules) c.clear.ensures)
 
 pub put_bit-requires : goal.put_bit-requires
 put_bit-requires c =
-    let low = c.first-i.ensures in
-    let inv = c.loop-left.invariant in
+    let low = c.in-Some.ensures.steps.0 in
+    let inv = c.loop-i.invariant in
     let pre = c.requires in
     let cleared = within_cleared _ _ (omega arith) c.clear.ensures in
     (omega (arith, pre.1.each _ (walk_in inv.2.0 low), inv.0, pre.0, cleared.len), low.bound)
 
-pub loop-left-smaller : goal.loop-left-smaller
-loop-left-smaller c =
-    walk_less c.first-i.ensures c.but_first-left.ensures
-
-pub loop-left-preserved : goal.loop-left-preserved
-loop-left-preserved c =
-    let low = c.first-i.ensures in
-    let inv = c.loop-left.invariant in
+pub loop-i-preserved : goal.loop-i-preserved
+loop-i-preserved c =
+    let low = c.in-Some.ensures.steps.0 in
+    let inv = c.loop-i.invariant in
     let put = c.put_bit.ensures in
     let small = c.requires.1.each _ (walk_in inv.2.0 low) in (
       put.frame.len ∙ inv.0,
       within_trans inv.1 (within_widen _ _ (omega arith) (omega (arith, small)) put.frame),
-      placed_turn _ inv.2 low c.but_first-left.ensures refl small put,
+      placed_turn _ inv.2 low c.in-Some.ensures.steps.1 refl small put,
     )
 
 pub returns : goal.returns
 returns c =
-    let inv = c.loop-left.invariant in
-    placed_end _ (sym c.some.ensures ∙ c.loop-left-test.false) inv.2.1 (within_trans (within_cleared _ _ (omega arith) c.clear.ensures) inv.1)
+    let inv = c.loop-i.invariant in
+    placed_end _ c.in-None.ensures.steps.0 inv.2.1 (within_trans (within_cleared _ _ (omega arith) c.clear.ensures) inv.1)

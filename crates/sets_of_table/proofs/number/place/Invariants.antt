@@ -8,8 +8,5 @@ use Rattle.sets_of_rows.specs.Walk.{Walk}
 use Rattle.sets_of_table.specs.Placed.{PlacedTo}
 use Rattle.sets_of_table.proofs.number.place.Given as goal
 
-abbrev pub invariant-loop-left : goal.invariant-loop-left
-invariant-loop-left l = (length l.s ≡ length l.initial.s) × Within l.base (l.base + 2 * ROWS) l.initial.s l.s × (Walk l.initial.left l.left × PlacedTo l.base l.loc l.initial.left (next l.left) l.s)
-
-abbrev pub decreases-loop-left : goal.decreases-loop-left
-decreases-loop-left l = ROWS - next l.left
+abbrev pub invariant-loop-i : goal.invariant-loop-i
+invariant-loop-i l = (length l.s ≡ length l.initial.s) × Within l.base (l.base + 2 * ROWS) l.initial.s l.s × (Walk l.initial.i-iterator.left l.i-iterator.left × PlacedTo l.base l.loc l.initial.i-iterator.left (next l.i-iterator.left) l.s)

@@ -6,4 +6,4 @@ pub returns-then-some : goal.returns-then-some
 returns-then-some c = heard_some c.heard-x.ensures c.put.ensures
 
 pub returns-else-some : goal.returns-else-some
-returns-else-some c = heard_off _ _ _ c.get.ensures (sym c.some.ensures ∙ c.if-some.false)
+returns-else-some c = heard_off _ _ _ c.get.ensures (sym c.has_any.ensures ∙ c.if-some.false)

@@ -7,4 +7,4 @@ returns-then-some c p d =
     adds_taken d c.get-v.ensures c.join_from.ensures
 
 pub returns-else-some : goal.returns-else-some
-returns-else-some c p d = adds_none p _ _ _ _ c.get-v.ensures (sym c.some.ensures ∙ c.if-some.false)
+returns-else-some c p d = adds_none p _ _ _ _ c.get-v.ensures (sym c.has_any.ensures ∙ c.if-some.false)

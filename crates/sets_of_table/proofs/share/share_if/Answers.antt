@@ -6,4 +6,4 @@ pub returns-then-some : goal.returns-then-some
 returns-then-some c = if_shared c.share_one.ensures
 
 pub returns-else-some : goal.returns-else-some
-returns-else-some c = if_none _ _ _ _ c.get.ensures (sym c.some.ensures ∙ c.if-some.false)
+returns-else-some c = if_none _ _ _ _ c.get.ensures (sym c.has_any.ensures ∙ c.if-some.false)

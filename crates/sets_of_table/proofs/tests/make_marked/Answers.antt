@@ -11,4 +11,4 @@ put-requires-3 c =
 
 pub returns : goal.returns
 returns c =
-    marked_made _ _ _ _ _ _ c.four-public.ensures c.four.ensures c.four-2.ensures c.get-own.ensures c.less-available.ensures c.less-visible.ensures c.put.ensures c.put-2.ensures c.put-3.ensures
+    marked_made _ _ _ _ _ _ c.four-public.ensures c.four.ensures c.four-2.ensures c.get-own.ensures c.sub-available.ensures c.sub-visible.ensures c.put.ensures c.put-2.ensures c.put-3.ensures

@@ -10,4 +10,4 @@ pub returns : goal.returns
 returns c =
     let q = c.args.q in
     let e : 168 + 2 * q ≡ 0 + 2 * (84 + q) = omega arith in
-    class_sorted _ (search rules) _ _ _ _ c.holding-a.ensures c.get.ensures (c.get-2.ensures ∙ ap (set_at _) e) c.and-b.ensures c.put.ensures c.put-2.ensures
+    class_sorted _ (search rules) _ _ _ _ c.holding-a.ensures c.get.ensures (c.get-2.ensures ∙ ap (set_at _) e) c.bitand-b.ensures c.put.ensures c.put-2.ensures

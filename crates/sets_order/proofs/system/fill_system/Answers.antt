@@ -21,36 +21,26 @@ pub fill_reach-requires : goal.fill_reach-requires
 fill_reach-requires c =
     asks_none c.requires c.of_none-k.ensures (within_cleared SYSTEM SYSTEM_END (omega arith) c.clear.ensures)
 
-pub loop-left-init : goal.loop-left-init
-loop-left-init c = (add_begin _ _ _ _, within_refl _ _ _)
-
-pub first-i-requires : goal.first-i-requires
-first-i-requires c = sym c.some.ensures ∙ c.loop-left-test.true
-
-pub but_first-left-requires : goal.but_first-left-requires
-but_first-left-requires c = sym c.some.ensures ∙ c.loop-left-test.true
+pub loop-i-init : goal.loop-i-init
+loop-i-init c = (add_begin _ _ _ _, within_refl _ _ _)
 
 pub get-to-requires : goal.get-to-requires
 get-to-requires c =
-    let a = c.requires.given.room in let b = c.first-i.ensures.bound in let d = c.loop-left.invariant.1.len in let e = c.fill_reach.ensures.frame.len in let f = (within_cleared SYSTEM SYSTEM_END (omega arith) c.clear.ensures).len in omega arith
+    let a = c.requires.given.room in let b = c.in-Some.ensures.steps.0.bound in let d = c.loop-i.invariant.1.len in let e = c.fill_reach.ensures.frame.len in let f = (within_cleared SYSTEM SYSTEM_END (omega arith) c.clear.ensures).len in omega arith
 
 pub put-requires : goal.put-requires
 put-requires c =
-    let a = c.requires.given.room in let b = c.first-i.ensures.bound in let d = c.loop-left.invariant.1.len in let e = c.fill_reach.ensures.frame.len in let f = (within_cleared SYSTEM SYSTEM_END (omega arith) c.clear.ensures).len in omega arith
+    let a = c.requires.given.room in let b = c.in-Some.ensures.steps.0.bound in let d = c.loop-i.invariant.1.len in let e = c.fill_reach.ensures.frame.len in let f = (within_cleared SYSTEM SYSTEM_END (omega arith) c.clear.ensures).len in omega arith
 
-pub loop-left-smaller : goal.loop-left-smaller
-loop-left-smaller c =
-    walk_less c.first-i.ensures c.but_first-left.ensures
-
-pub loop-left-preserved : goal.loop-left-preserved
-loop-left-preserved c =
-    let inv = c.loop-left.invariant in
-    let low = c.first-i.ensures in
+pub loop-i-preserved : goal.loop-i-preserved
+loop-i-preserved c =
+    let inv = c.loop-i.invariant in
+    let low = c.in-Some.ensures.steps.0 in
     let mem = walk_in inv.0.walk low in
     let few = given_few c.requires.given in
     let l = c.requires.told.rows _ mem in
     let z = rows_at c.get-to.ensures ((grid_on_kept (λ o. absurd (omega (arith, o, few))) inv.1 c.fill_reach.ensures.at).row _ l (end_node _ _ _ mem)) in (
-      add_turn _ _ _ _ inv.0 low c.but_first-left.ensures
+      add_turn _ _ _ _ inv.0 low c.in-Some.ensures.steps.1
           (puts_adds (λ j. row_before _ _ _ _ inv.0 low j ∙ (empty_kept (λ o. omega arith) c.fill_reach.ensures.frame (empty_cleared SYSTEM SYSTEM SYSTEM_END _ (omega arith) (omega arith) (let a = c.requires.given.room in omega arith) c.clear.ensures)).is _ j low.bound)
           (puts_cong z.is (puts_put {base = SYSTEM} _ c.put.ensures))),
       within_trans inv.1 (within_widen SYSTEM SYSTEM_END (omega arith) (omega (arith, low.bound)) c.put.ensures.frame),
@@ -58,13 +48,13 @@ loop-left-preserved c =
 
 pub shape_of-w : goal.shape_of-w
 shape_of-w c =
-    c.loop-left.invariant.1.len ∙ c.fill_reach.ensures.frame.len ∙ (within_cleared SYSTEM SYSTEM_END (omega arith) c.clear.ensures).len
+    c.loop-i.invariant.1.len ∙ c.fill_reach.ensures.frame.len ∙ (within_cleared SYSTEM SYSTEM_END (omega arith) c.clear.ensures).len
 
 pub returns : goal.returns
 returns c =
-    let inv = c.loop-left.invariant in
+    let inv = c.loop-i.invariant in
     record {
-      grid = made_grid _ _ (given_few c.requires.given) (told_rows c.requires.told) (λ i j l m. system_order _ c.requires.given.opened.fit _ c.requires.given.opened.rows c.requires.told i j l m) _ (sym c.some.ensures ∙ c.loop-left-test.false) inv.0
+      grid = made_grid _ _ (given_few c.requires.given) (told_rows c.requires.told) (λ i j l m. system_order _ c.requires.given.opened.fit _ c.requires.given.opened.rows c.requires.told i j l m) _ c.in-None.ensures.steps.0 inv.0
           (empty_kept (λ o. omega arith) c.fill_reach.ensures.frame (empty_cleared SYSTEM SYSTEM SYSTEM_END _ (omega arith) (omega arith) (let a = c.requires.given.room in omega arith) c.clear.ensures));
       frame = within_trans (within_widen REACH_AT SYSTEM_END (omega arith) (omega arith) (within_cleared SYSTEM SYSTEM_END (omega arith) c.clear.ensures))
           (within_trans (within_widen REACH_AT SYSTEM_END (omega arith) (omega arith) c.fill_reach.ensures.frame) (within_widen REACH_AT SYSTEM_END (omega arith) (omega arith) inv.1));

@@ -10,8 +10,5 @@ use Rattle.model.specs.Limits.{ROWS}
 use Rattle.sets_of_rows.specs.First.{next}
 use Rattle.sets_order.proofs.system.fill_system.Given as goal
 
-abbrev pub invariant-loop-left : goal.invariant-loop-left
-invariant-loop-left l = Adding SYSTEM l.initial.left (λ i j. ltb j l.n and reached_at (table_in l.t l.n) 16 i j) l.initial.w l.left l.w × Within SYSTEM SYSTEM_END l.initial.w l.w
-
-abbrev pub decreases-loop-left : goal.decreases-loop-left
-decreases-loop-left l = ROWS - next l.left
+abbrev pub invariant-loop-i : goal.invariant-loop-i
+invariant-loop-i l = Adding SYSTEM l.initial.i-iterator.left (λ i j. ltb j l.n and reached_at (table_in l.t l.n) 16 i j) l.initial.w l.i-iterator.left l.w × Within SYSTEM SYSTEM_END l.initial.w l.w

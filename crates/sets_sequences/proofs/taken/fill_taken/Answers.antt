@@ -1,3 +1,4 @@
+use Rattle.sets_of_rows.specs.Rows.{started}
 use mathlib.Core.Path.{sym, ◌∙◌}
 use native.Mathlib.Omega.{arith}
 use Rattle.finite.specs.Logic.{split}
@@ -23,25 +24,19 @@ pub rows-requires-2 : goal.rows-requires-2
 rows-requires-2 c =
     let a = c.requires.0.opened.space in omega arith
 
-pub loop-left-init : goal.loop-left-init
-loop-left-init c =
+pub loop-y-init : goal.loop-y-init
+loop-y-init c =
     let o = c.requires.0.opened in
     let small = few o in
-    (within_refl _ _ _, taken_begin _ _ o.rows small _ (rows_and (rows_at c.rows.ensures (says_rows o.known.tested.kinds.atomic)) (rows_at c.rows-2.ensures (says_rows o.known.tested.accesses.reads)) c.and-left.ensures) (λ k j l. cleared TAKEN _ (search rules) c.clear.ensures k j (omega arith)))
-
-pub first-y-requires : goal.first-y-requires
-first-y-requires c = sym c.some.ensures ∙ c.loop-left-test.true
-
-pub but_first-left-requires : goal.but_first-left-requires
-but_first-left-requires c = sym c.some.ensures ∙ c.loop-left-test.true
+    (within_refl _ _ _, taken_begin _ _ o.rows small _ (rows_and (rows_at c.rows.ensures (says_rows o.known.tested.kinds.atomic)) (rows_at c.rows-2.ensures (says_rows o.known.tested.accesses.reads)) (started c.into_iter-y-iterator.ensures.into_iter_gives c.bitand.ensures)) (λ k j l. cleared TAKEN _ (search rules) c.clear.ensures k j (omega arith)))
 
 pub take_from-requires : goal.take_from-requires
 take_from-requires c =
     let pre = c.requires in
     let o = pre.0.opened in
     let small = few o in
-    let m = member_in _ (rows_and (rows_at c.rows.ensures (says_rows o.known.tested.kinds.atomic)) (rows_at c.rows-2.ensures (says_rows o.known.tested.accesses.reads)) c.and-left.ensures) (walk_in c.loop-left.invariant.1.0 c.first-y.ensures) in
-    let f = within_trans (within_cleared TAKEN TAKEN_END (omega arith) c.clear.ensures) c.loop-left.invariant.0 in
+    let m = member_in _ (rows_and (rows_at c.rows.ensures (says_rows o.known.tested.kinds.atomic)) (rows_at c.rows-2.ensures (says_rows o.known.tested.accesses.reads)) (started c.into_iter-y-iterator.ensures.into_iter_gives c.bitand.ensures)) (walk_in c.loop-y.invariant.1.0 c.in-Some.ensures.steps.0) in
+    let f = within_trans (within_cleared TAKEN TAKEN_END (omega arith) c.clear.ensures) c.loop-y.invariant.0 in
     record {
       given = given_kept f pre.0;
       reader = m.0;
@@ -50,24 +45,20 @@ take_from-requires c =
       heads = grid_kept (λ h. absurd (omega arith)) f pre.2;
     }
 
-pub loop-left-smaller : goal.loop-left-smaller
-loop-left-smaller c =
-    walk_less c.first-y.ensures c.but_first-left.ensures
-
-pub loop-left-preserved : goal.loop-left-preserved
-loop-left-preserved c =
+pub loop-y-preserved : goal.loop-y-preserved
+loop-y-preserved c =
     let o = c.requires.0.opened in
-    let inv = c.loop-left.invariant in
+    let inv = c.loop-y.invariant in
     let take = c.take_from.ensures in
-    let says = rows_and (rows_at c.rows.ensures (says_rows o.known.tested.kinds.atomic)) (rows_at c.rows-2.ensures (says_rows o.known.tested.accesses.reads)) c.and-left.ensures in
-    (within_trans inv.0 (step_frame _ _ o.rows (few o) _ says take), taken_step _ _ o.rows (few o) _ says inv.1 c.first-y.ensures c.but_first-left.ensures take)
+    let says = rows_and (rows_at c.rows.ensures (says_rows o.known.tested.kinds.atomic)) (rows_at c.rows-2.ensures (says_rows o.known.tested.accesses.reads)) (started c.into_iter-y-iterator.ensures.into_iter_gives c.bitand.ensures) in
+    (within_trans inv.0 (step_frame _ _ o.rows (few o) _ says take), taken_step _ _ o.rows (few o) _ says inv.1 c.in-Some.ensures.steps.0 c.in-Some.ensures.steps.1 take)
 
 pub shape_of-w : goal.shape_of-w
 shape_of-w c =
-    let f = within_trans (within_cleared TAKEN TAKEN_END (omega arith) c.clear.ensures) c.loop-left.invariant.0 in
+    let f = within_trans (within_cleared TAKEN TAKEN_END (omega arith) c.clear.ensures) c.loop-y.invariant.0 in
     f.len
 
 pub returns : goal.returns
 returns c =
     let o = c.requires.0.opened in
-    taken_end _ _ o.rows (few o) _ (rows_and (rows_at c.rows.ensures (says_rows o.known.tested.kinds.atomic)) (rows_at c.rows-2.ensures (says_rows o.known.tested.accesses.reads)) c.and-left.ensures) _ (sym c.some.ensures ∙ c.loop-left-test.false) c.loop-left.invariant.1.1 (within_trans (within_cleared TAKEN TAKEN_END (omega arith) c.clear.ensures) c.loop-left.invariant.0)
+    taken_end _ _ o.rows (few o) _ (rows_and (rows_at c.rows.ensures (says_rows o.known.tested.kinds.atomic)) (rows_at c.rows-2.ensures (says_rows o.known.tested.accesses.reads)) (started c.into_iter-y-iterator.ensures.into_iter_gives c.bitand.ensures)) _ c.in-None.ensures.steps.0 c.loop-y.invariant.1.1 (within_trans (within_cleared TAKEN TAKEN_END (omega arith) c.clear.ensures) c.loop-y.invariant.0)

@@ -8,8 +8,5 @@ use Rattle.sets_grids.specs.Regions.{TAKEN, TAKEN_END}
 use Rattle.sets_sequences.specs.Taken.{TakenTo}
 use Rattle.sets_sequences.proofs.taken.fill_taken.Given as goal
 
-abbrev pub invariant-loop-left : goal.invariant-loop-left
-invariant-loop-left l = Within TAKEN TAKEN_END l.initial.w l.w × (Walk l.initial.left l.left × TakenTo (table_in l.t l.n) l.n (next l.left) l.w)
-
-abbrev pub decreases-loop-left : goal.decreases-loop-left
-decreases-loop-left l = ROWS - next l.left
+abbrev pub invariant-loop-y : goal.invariant-loop-y
+invariant-loop-y l = Within TAKEN TAKEN_END l.initial.w l.w × (Walk l.initial.y-iterator.left l.y-iterator.left × TakenTo (table_in l.t l.n) l.n (next l.y-iterator.left) l.w)

@@ -35,4 +35,4 @@ pub returns : goal.returns
 unfolding decode
 returns c =
     let pre = c.requires in
-    gets_rows pre.2 _ _ _ _ _ _ _ _ _ _ _ pre.0 pre.1 c.class.ensures c.get-class.ensures c.after.ensures c.rows.ensures c.and-after.ensures c.and.ensures c.bit.ensures c.or-all.ensures c.rows-2.ensures c.and-2.ensures
+    gets_rows pre.2 _ _ _ _ _ _ _ _ _ _ _ pre.0 pre.1 c.class.ensures c.get-class.ensures c.after.ensures c.rows.ensures c.bitand-after.ensures c.bitand.ensures c.bit.ensures c.bitor-all.ensures c.rows-2.ensures c.bitand-2.ensures

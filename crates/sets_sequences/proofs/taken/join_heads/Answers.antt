@@ -1,3 +1,4 @@
+use Rattle.sets_of_rows.specs.Rows.{started}
 use mathlib.Core.Path.{refl, sym, ◌∙◌}
 use native.Mathlib.Omega.{arith}
 use Rattle.sets_of_rows.specs.Walk.{walk_less}
@@ -13,28 +14,22 @@ get-requires-2 c = let pre = c.requires in omega (arith, pre.few, pre.reader, pr
 pub loop-x-init : goal.loop-x-init
 loop-x-init c =
     let pre = c.requires in
-    (refl, take_begin _ _ _ _ pre.few _ (heads_of _ pre.heads pre.mutuals _ _ _ _ _ pre.reader pre.writer c.get.ensures c.get-2.ensures c.and-left.ensures) _)
-
-pub first-h-requires : goal.first-h-requires
-first-h-requires c = sym c.some.ensures ∙ c.loop-x-test.true
-
-pub but_first-left-requires : goal.but_first-left-requires
-but_first-left-requires c = sym c.some.ensures ∙ c.loop-x-test.true
+    (refl, take_begin _ _ _ _ pre.few _ (heads_of _ pre.heads pre.mutuals _ _ _ _ _ pre.reader pre.writer c.get.ensures c.get-2.ensures (started c.into_iter-h-iterator.ensures.into_iter_gives c.bitand.ensures)) _)
 
 pub join-requires : goal.join-requires
 join-requires c =
-    omega (arith, c.first-h.ensures.bound, c.loop-x.invariant.0, c.requires.room)
+    omega (arith, c.in-Some.ensures.steps.0.bound, c.loop-x.invariant.0, c.requires.room)
 
 pub loop-x-smaller : goal.loop-x-smaller
 loop-x-smaller c =
-    walk_less c.first-h.ensures c.but_first-left.ensures
+    walk_less c.in-Some.ensures.steps.0 c.in-Some.ensures.steps.1
 
 pub loop-x-preserved : goal.loop-x-preserved
 loop-x-preserved c =
     let pre = c.requires in
     let inv = c.loop-x.invariant in
     let join = c.join.ensures in
-    (join.frame.len ∙ inv.0, take_turn _ _ _ _ pre.few _ (heads_of _ pre.heads pre.mutuals _ _ _ _ _ pre.reader pre.writer c.get.ensures c.get-2.ensures c.and-left.ensures) _ inv.1 c.first-h.ensures c.but_first-left.ensures pre.getters join)
+    (join.frame.len ∙ inv.0, take_turn _ _ _ _ pre.few _ (heads_of _ pre.heads pre.mutuals _ _ _ _ _ pre.reader pre.writer c.get.ensures c.get-2.ensures (started c.into_iter-h-iterator.ensures.into_iter_gives c.bitand.ensures)) _ inv.1 c.in-Some.ensures.steps.0 c.in-Some.ensures.steps.1 pre.getters join)
 
 pub shape_of-w : goal.shape_of-w
 shape_of-w c = c.loop-x.invariant.0
@@ -42,4 +37,4 @@ shape_of-w c = c.loop-x.invariant.0
 pub returns : goal.returns
 returns c =
     let pre = c.requires in
-    take_end _ _ _ _ pre.few _ (heads_of _ pre.heads pre.mutuals _ _ _ _ _ pre.reader pre.writer c.get.ensures c.get-2.ensures c.and-left.ensures) _ (sym c.some.ensures ∙ c.loop-x-test.false) c.loop-x.invariant.1.1
+    take_end _ _ _ _ pre.few _ (heads_of _ pre.heads pre.mutuals _ _ _ _ _ pre.reader pre.writer c.get.ensures c.get-2.ensures (started c.into_iter-h-iterator.ensures.into_iter_gives c.bitand.ensures)) _ (sym c.has_any.ensures ∙ c.loop-x-test.false) c.loop-x.invariant.1.1

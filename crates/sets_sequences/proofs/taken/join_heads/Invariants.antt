@@ -9,7 +9,7 @@ use Rattle.sets_sequences.specs.Taken.{TakesTo}
 use Rattle.sets_sequences.proofs.taken.join_heads.Given as goal
 
 abbrev pub invariant-loop-x : goal.invariant-loop-x
-invariant-loop-x l = (length l.w ≡ length l.initial.w) × (Walk l.initial.left l.left × TakesTo (table_in l.t l.n) l.n l.y l.source (next l.left) l.initial.w l.w)
+invariant-loop-x l = (length l.w ≡ length l.initial.w) × (Walk l.initial.h-iterator.left l.h-iterator.left × TakesTo (table_in l.t l.n) l.n l.y l.source (next l.h-iterator.left) l.initial.w l.w)
 
 abbrev pub decreases-loop-x : goal.decreases-loop-x
-decreases-loop-x l = ROWS - next l.left
+decreases-loop-x l = ROWS - next l.h-iterator.left

@@ -22,4 +22,4 @@ returns-then-some c = c.join_heads.ensures
 
 pub returns-else-some : goal.returns-else-some
 returns-else-some c =
-    take_none _ (few c.requires.1.given.opened) c.getters-gets.ensures (sym c.some.ensures ∙ c.if-some.false)
+    take_none _ (few c.requires.1.given.opened) c.getters-gets.ensures (sym c.has_any.ensures ∙ c.if-some.false)

@@ -9,7 +9,7 @@ use native.Mathlib.Omega.{arith}
 use Rattle.sets_chains.proofs.available_to.Goals as goal
 
 pub loop-c-init : goal.loop-c-init
-loop-c-init c = gather_begin _ _ (met_off _ _ _ _) _ c.none-at.ensures
+loop-c-init c = rw c.into_iter-c-iterator.ensures.into_iter_gives (gather_begin _ _ (met_off _ _ _ _) _ c.none-at.ensures)
 
 pub scope-requires : goal.scope-requires
 scope-requires c = c.in-Some.ensures.steps.0.bound
@@ -38,7 +38,7 @@ loop-c-preserved c =
     let m = member_in _ pre.0.ends (walk_in c.loop-c.invariant.0 c.in-Some.ensures.steps.0) in
     let f = c.sharing-domain.ensures in
     gather_turn _ _ (met_off _ _ _ _) c.loop-c.invariant c.in-Some.ensures.steps.0 c.in-Some.ensures.steps.1
-    (met_on _ _ _ _ _ _ _ _ _ _ _ _ m.0 (rw c.scope.ensures at f) (grid_at pre.2.rows m.0 c.get.ensures) c.bitand-to.ensures c.has.ensures c.only_if.ensures c.bitor-at.ensures)
+    (met_on _ _ _ _ _ _ _ _ _ _ _ _ m.0 (rw c.scope.ensures at f) (grid_at pre.2.rows m.0 c.get.ensures) c.bitand-to.ensures c.has.ensures c.only_if.ensures c.bitor_assign.ensures.after)
 
 pub returns : goal.returns
 returns c =

@@ -7,4 +7,4 @@ use Rattle.sets_chains.specs.Filled.{met_to}
 use Rattle.sets_chains.proofs.available_to.Given as goal
 
 abbrev pub invariant-loop-c : goal.invariant-loop-c
-invariant-loop-c l = Walk l.initial.c-iterator.left l.c-iterator.left × Gathered (met_to (table_in l.t l.n) l.n l.a l.initial.c-iterator.left) l.at (next l.c-iterator.left)
+invariant-loop-c l = Walk l.fn.chain l.c-iterator.left × Gathered (met_to (table_in l.t l.n) l.n l.a l.fn.chain) l.at (next l.c-iterator.left)

@@ -24,7 +24,7 @@ visible_by-requires c =
     (record { low = c.requires.0.low; ends = chain_rows _ _ _ _ c.requires.1.device c.requires.0.low (rows_at c.get.ensures ((c.requires.1.chained refl).outs.row _ c.requires.0.low c.requires.0.makes)) c.bit.ensures c.bitor-chain.ensures }, omega (arith, c.loop-q-test.true), record { given = c.requires.1.given; after = c.requires.1.after; ins = (c.requires.1.chained refl).ins })
 
 pub loop-q-preserved : goal.loop-q-preserved
-loop-q-preserved c = (omega (arith, c.loop-q.invariant.0), omega (arith, c.loop-q-test.true), wide_more _ _ _ _ c.loop-q.invariant.0 c.loop-q.invariant.2 c.visible_by.ensures c.bitor-visible.ensures)
+loop-q-preserved c = (omega (arith, c.loop-q.invariant.0), omega (arith, c.loop-q-test.true), wide_more _ _ _ _ c.loop-q.invariant.0 c.loop-q.invariant.2 c.visible_by.ensures c.bitor_assign.ensures.after)
 
 pub put-requires : goal.put-requires
 put-requires c =

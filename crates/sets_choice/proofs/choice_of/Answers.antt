@@ -6,11 +6,11 @@ use Rattle.find_sources.specs.Choice.{unwritten, found}
 use Rattle.sets_choice.specs.Choosing.{written_some}
 use Rattle.sets_choice.proofs.choice_of.Goals as goal
 
-pub returns-then-not-some : goal.returns-then-not-some
-returns-then-not-some c =
+pub returns-then-not-has_any : goal.returns-then-not-has_any
+returns-then-not-has_any c =
     let pre = c.requires in
     let w = written_some _ _ _ pre.1.given.opened.rows (given_few pre.1.given) c.writers_before-writers.ensures c.has_any.ensures in
-    unwritten _ _ _ w c.if-not-some.true
+    unwritten _ _ _ w c.if-not-has_any.true
 
 pub first_candidate-requires : goal.first_candidate-requires
 unfolding decode
@@ -27,4 +27,4 @@ unfolding decode
 returns c =
     let pre = c.requires in
     let w = written_some _ _ _ pre.1.given.opened.rows (given_few pre.1.given) c.writers_before-writers.ensures c.has_any.ensures in
-    found _ _ _ w c.if-not-some.false _ c.first_candidate.ensures.0
+    found _ _ _ w c.if-not-has_any.false _ c.first_candidate.ensures.0

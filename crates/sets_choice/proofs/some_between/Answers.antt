@@ -14,11 +14,11 @@ get-requires c =
     let r = pre.1.judged.fitting.room in
     omega (arith, pre.0, e, f, r)
 
-pub returns-then-some : goal.returns-then-some
-returns-then-some c =
+pub returns-then-has_any : goal.returns-then-has_any
+returns-then-has_any c =
     let pre = c.requires in
     let later = later_rows pre.1 pre.0 c.get.ensures c.bitand.ensures in
-    sym (later_hit pre.1 pre.0 later (sym c.has_any.ensures ∙ c.if-some.true))
+    sym (later_hit pre.1 pre.0 later (sym c.has_any.ensures ∙ c.if-has_any.true))
 
 pub get-requires-2 : goal.get-requires-2
 get-requires-2 c =
@@ -32,7 +32,7 @@ pub loop-blank-init : goal.loop-blank-init
 loop-blank-init c =
     let pre = c.requires in
     let later = later_rows pre.1 pre.0 c.get.ensures c.bitand.ensures in
-    let none = sym c.has_any.ensures ∙ c.if-some.false in
+    let none = sym c.has_any.ensures ∙ c.if-has_any.false in
     let rows = some_rows pre.1 pre.0 c.get-2.ensures (started c.into_iter-z-iterator.ensures.into_iter_gives c.bitand.ensures) in
     search_begin _ _ (between_off pre.1 pre.0 later none rows)
 
@@ -58,7 +58,7 @@ pub loop-blank-preserved : goal.loop-blank-preserved
 loop-blank-preserved c =
     let pre = c.requires in
     let later = later_rows pre.1 pre.0 c.get.ensures c.bitand.ensures in
-    let none = sym c.has_any.ensures ∙ c.if-some.false in
+    let none = sym c.has_any.ensures ∙ c.if-has_any.false in
     let rows = some_rows pre.1 pre.0 c.get-2.ensures (started c.into_iter-z-iterator.ensures.into_iter_gives c.bitand.ensures) in
     let m = member_in _ rows (walk_in c.loop-blank.invariant.0 c.in-Some.ensures.steps.0) in
     let clear = between_clear pre.1 pre.0 later none _ _ m.0 c.overwrites.ensures c.if-overwrites-gt0.false in
@@ -68,6 +68,6 @@ pub returns : goal.returns
 returns c =
     let pre = c.requires in
     let later = later_rows pre.1 pre.0 c.get.ensures c.bitand.ensures in
-    let none = sym c.has_any.ensures ∙ c.if-some.false in
+    let none = sym c.has_any.ensures ∙ c.if-has_any.false in
     let rows = some_rows pre.1 pre.0 c.get-2.ensures (started c.into_iter-z-iterator.ensures.into_iter_gives c.bitand.ensures) in
     sym (between_none pre.1 pre.0 (search_end _ _ (between_off pre.1 pre.0 later none rows) _ (sym c.has_any-in-loop-blank.ensures ∙ c.loop-blank-test.false) c.loop-blank.invariant.1))

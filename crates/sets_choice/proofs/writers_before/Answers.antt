@@ -35,7 +35,7 @@ bit-requires c = c.in-Some.ensures.steps.0.bound
 pub loop-z-preserved : goal.loop-z-preserved
 loop-z-preserved c =
     sift_turn _ _ _ c.loop-z.invariant c.in-Some.ensures.steps.0 c.in-Some.ensures.steps.1 (in_column_lem _ _ _ c.get-in-loop-z.ensures c.has-ordered.ensures)
-    (one_more _ _ _ _ _ _ c.bit.ensures c.only_if.ensures c.bitor-all.ensures)
+    (one_more _ _ _ _ _ _ c.bit.ensures c.only_if.ensures c.bitor_assign.ensures.after)
 
 pub returns : goal.returns
 returns c =

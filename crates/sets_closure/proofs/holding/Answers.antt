@@ -13,7 +13,7 @@ get-requires c =
 
 pub loop-m-preserved : goal.loop-m-preserved
 loop-m-preserved c =
-    (search rules, holds_more _ _ _ c.loop-m.invariant.1 c.holds-b.ensures c.get.ensures c.only_if.ensures c.bitor-a.ensures)
+    (search rules, holds_more _ _ _ c.loop-m.invariant.1 c.holds-b.ensures c.get.ensures c.only_if.ensures c.bitor_assign.ensures.after)
 
 pub returns : goal.returns
 returns c = let e : c.loop-m.m ≡ 16 = omega arith in rw e at c.loop-m.invariant.1

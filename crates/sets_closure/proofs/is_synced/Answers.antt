@@ -13,11 +13,11 @@ pub get-requires : goal.get-requires
 get-requires c =
     let a = c.requires.0.room in let b = c.in-Some.ensures.steps.0.bound in omega arith
 
-pub returns-then-some : goal.returns-then-some
-returns-then-some c =
+pub returns-then-has_any : goal.returns-then-has_any
+returns-then-has_any c =
     let m = walk_in c.loop-k.invariant.0 c.in-Some.ensures.steps.0 in
     synced_found _ _ _ _ (c.requires.2 _ m)
-    (sym (synced_at _ _ _ _ _ _ _ (given_few c.requires.0) m (grid_at c.requires.1 (c.requires.2 _ m) c.get.ensures) c.bitand.ensures c.has_any-in-loop-k.ensures) ∙ c.if-some.true)
+    (sym (synced_at _ _ _ _ _ _ _ (given_few c.requires.0) m (grid_at c.requires.1 (c.requires.2 _ m) c.get.ensures) c.bitand.ensures c.has_any-in-loop-k.ensures) ∙ c.if-has_any.true)
 
 pub loop-k-smaller : goal.loop-k-smaller
 loop-k-smaller c =
@@ -27,7 +27,7 @@ pub loop-k-preserved : goal.loop-k-preserved
 loop-k-preserved c =
     let m = walk_in c.loop-k.invariant.0 c.in-Some.ensures.steps.0 in
     search_turn _ _ (λ i e. synced_off _ _ _ i e) c.loop-k.invariant c.in-Some.ensures.steps.0 c.in-Some.ensures.steps.1
-    (sym (synced_at _ _ _ _ _ _ _ (given_few c.requires.0) m (grid_at c.requires.1 (c.requires.2 _ m) c.get.ensures) c.bitand.ensures c.has_any-in-loop-k.ensures) ∙ c.if-some.false)
+    (sym (synced_at _ _ _ _ _ _ _ (given_few c.requires.0) m (grid_at c.requires.1 (c.requires.2 _ m) c.get.ensures) c.bitand.ensures c.has_any-in-loop-k.ensures) ∙ c.if-has_any.false)
 
 pub returns : goal.returns
 returns c =

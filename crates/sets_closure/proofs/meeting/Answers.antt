@@ -19,7 +19,7 @@ get-requires c =
 
 pub loop-q-preserved : goal.loop-q-preserved
 loop-q-preserved c =
-    (search rules, meets_more c.requires.1 _ _ _ c.loop-q.invariant.1 c.holds_class-b.ensures c.get.ensures c.only_if.ensures c.bitor-a.ensures)
+    (search rules, meets_more c.requires.1 _ _ _ c.loop-q.invariant.1 c.holds_class-b.ensures c.get.ensures c.only_if.ensures c.bitor_assign.ensures.after)
 
 pub returns : goal.returns
 returns c =

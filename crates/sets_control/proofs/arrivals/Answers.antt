@@ -5,7 +5,7 @@ use native.Mathlib.Omega.{arith}
 use Rattle.sets_control.proofs.arrivals.Goals as goal
 
 pub loop-k-init : goal.loop-k-init
-loop-k-init c = gather_begin _ _ (arrives_off _ _ _) _ c.none-all.ensures
+loop-k-init c = rw c.into_iter-k-iterator.ensures.into_iter_gives (gather_begin _ _ (arrives_off _ _ _) _ c.none-all.ensures)
 
 pub onward-requires : goal.onward-requires
 onward-requires c =
@@ -13,7 +13,7 @@ onward-requires c =
 
 pub loop-k-preserved : goal.loop-k-preserved
 loop-k-preserved c =
-    gather_turn _ _ (arrives_off _ _ _) c.loop-k.invariant c.in-Some.ensures.steps.0 c.in-Some.ensures.steps.1 (arrives_on _ _ _ _ _ _ _ c.onward.ensures c.bitor-all.ensures)
+    gather_turn _ _ (arrives_off _ _ _) c.loop-k.invariant c.in-Some.ensures.steps.0 c.in-Some.ensures.steps.1 (arrives_on _ _ _ _ _ _ _ c.onward.ensures c.bitor_assign.ensures.after)
 
 pub rows-requires : goal.rows-requires
 rows-requires c =

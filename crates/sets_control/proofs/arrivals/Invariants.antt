@@ -7,4 +7,4 @@ use Rattle.sets_control.specs.Passed.{arrives_by}
 use Rattle.sets_control.proofs.arrivals.Given as goal
 
 abbrev pub invariant-loop-k : goal.invariant-loop-k
-invariant-loop-k l = Walk l.initial.k-iterator.left l.k-iterator.left × Gathered (arrives_by (table_in l.t l.n) l.n l.initial.k-iterator.left) l.all (next l.k-iterator.left)
+invariant-loop-k l = Walk l.fn.d l.k-iterator.left × Gathered (arrives_by (table_in l.t l.n) l.n l.fn.d) l.all (next l.k-iterator.left)

@@ -11,8 +11,8 @@ pub pass_up-requires : goal.pass_up-requires
 pass_up-requires c =
     (search rules, blank 64, c.requires)
 
-pub returns-then-some : goal.returns-then-some
-returns-then-some c = c.pass_up.ensures
+pub returns-then-has_any : goal.returns-then-has_any
+returns-then-has_any c = c.pass_up.ensures
 
 pub clear-requires : goal.clear-requires
 clear-requires c =
@@ -20,4 +20,4 @@ clear-requires c =
 
 pub returns : goal.returns
 returns c =
-    pass_none c.requires _ c.get.ensures (sym c.has_any.ensures ∙ c.if-some.false) c.clear.ensures
+    pass_none c.requires _ c.get.ensures (sym c.has_any.ensures ∙ c.if-has_any.false) c.clear.ensures

@@ -26,7 +26,7 @@ bit-requires c = c.in-Some.ensures.steps.0.bound
 pub loop-d-preserved : goal.loop-d-preserved
 unfolding decode
 loop-d-preserved c =
-    sift_turn _ _ _ c.loop-d.invariant c.in-Some.ensures.steps.0 c.in-Some.ensures.steps.1 (start_is _ _ _ _ _ c.start.ensures.0 c.start-name.ensures.0) (one_more _ _ _ _ _ _ c.bit.ensures c.only_if.ensures c.bitor-all.ensures)
+    sift_turn _ _ _ c.loop-d.invariant c.in-Some.ensures.steps.0 c.in-Some.ensures.steps.1 (start_is _ _ _ _ _ c.start.ensures.0 c.start-name.ensures.0) (one_more _ _ _ _ _ _ c.bit.ensures c.only_if.ensures c.bitor_assign.ensures.after)
 
 pub returns : goal.returns
 unfolding decode

@@ -62,7 +62,7 @@ loop-a-smaller-then-covers c =
 pub loop-a-preserved-then-covers : goal.loop-a-preserved-then-covers
 unfolding decode
 loop-a-preserved-then-covers c =
-    grasp_whole _ _ _ _ _ _ _ c.loop-a.invariant c.in-Some.ensures.steps.0 c.in-Some.ensures.steps.1 _ _ _ _ (sym c.covers.ensures ∙ c.if-covers.true) c.get.ensures c.get-then-covers.ensures c.bitor-to.ensures c.bitor-by.ensures
+    grasp_whole _ _ _ _ _ _ _ c.loop-a.invariant c.in-Some.ensures.steps.0 c.in-Some.ensures.steps.1 _ _ _ _ (sym c.covers.ensures ∙ c.if-covers.true) c.get.ensures c.get-then-covers.ensures c.bitor_assign.ensures.after c.bitor_assign.ensures.after
 
 pub bit-requires : goal.bit-requires
 bit-requires c = c.in-Some.ensures.steps.0.bound
@@ -70,7 +70,7 @@ bit-requires c = c.in-Some.ensures.steps.0.bound
 pub loop-a-preserved : goal.loop-a-preserved
 unfolding decode
 loop-a-preserved c =
-    grasp_part _ _ _ _ _ _ _ c.loop-a.invariant c.in-Some.ensures.steps.0 c.in-Some.ensures.steps.1 _ _ (sym c.covers.ensures ∙ c.if-covers.false) c.bit.ensures c.bitor-parts.ensures
+    grasp_part _ _ _ _ _ _ _ c.loop-a.invariant c.in-Some.ensures.steps.0 c.in-Some.ensures.steps.1 _ _ (sym c.covers.ensures ∙ c.if-covers.false) c.bit.ensures c.bitor_assign.ensures.after
 
 pub returns : goal.returns
 unfolding decode

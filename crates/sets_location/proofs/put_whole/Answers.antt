@@ -10,8 +10,7 @@ pub put-requires : goal.put-requires
 put-requires c = let r = c.requires.0.room in let b = fitting_few c.requires.0 in let l = c.requires.1.here in omega (arith, r, b, l)
 
 pub loop-y-init : goal.loop-y-init
-loop-y-init c =
-    pairs_begin _ _ ((fitting_few c.requires.0)) c.requires.1.low (whole_off _ _ _) _
+loop-y-init c = rw c.into_iter-y-iterator.ensures.into_iter_gives (pairs_begin _ _ ((fitting_few c.requires.0)) c.requires.1.low (whole_off _ _ _) _)
 
 pub shared-m-requires : goal.shared-m-requires
 shared-m-requires c =

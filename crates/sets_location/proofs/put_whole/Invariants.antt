@@ -8,4 +8,4 @@ use Rattle.sets_location.specs.Put.{AddsPairs, cut}
 use Rattle.sets_location.proofs.put_whole.Given as goal
 
 abbrev pub invariant-loop-y : goal.invariant-loop-y
-invariant-loop-y l = Walk l.initial.y-iterator.left l.y-iterator.left × AddsPairs l.n l.x (cut (whole_bytes (table_in l.t l.n) l.x l.initial.y-iterator.left) (next l.y-iterator.left)) l.initial.w l.w
+invariant-loop-y l = Walk l.fn.to l.y-iterator.left × AddsPairs l.n l.x (cut (whole_bytes (table_in l.t l.n) l.x l.fn.to) (next l.y-iterator.left)) l.initial.w l.w

@@ -16,9 +16,9 @@ pub is_synced-requires : goal.is_synced-requires
 is_synced-requires c =
     (c.requires.1.given, c.requires.1.syncs, λ j e. (member_in j c.of_classes-k.ensures.releases e).0)
 
-pub returns-then-not-some-is_synced : goal.returns-then-not-some-is_synced
-returns-then-not-some-is_synced c =
-    let b = off_both _ _ c.if-not-some-is_synced.true in
+pub returns-then-not-has_any-is_synced : goal.returns-then-not-has_any-is_synced
+returns-then-not-has_any-is_synced c =
+    let b = off_both _ _ c.if-not-has_any-is_synced.true in
     inter_quiet c.requires.1.given.opened.rows c.requires.0.some c.requires.0.low
     (calm c.requires.1.given.opened.rows (given_few c.requires.1.given) c.requires.1.told c.of_classes-k.ensures (sym c.has_any.ensures ∙ b.0) (sym c.is_synced.ensures ∙ b.1))
 

@@ -5,7 +5,7 @@ use native.Mathlib.Omega.{arith}
 use Rattle.sets_order.proofs.leads_down.Goals as goal
 
 pub loop-a-init : goal.loop-a-init
-loop-a-init c = search_begin _ _ (λ i e. upward_off _ _ _ i e)
+loop-a-init c = rw c.into_iter-a-iterator.ensures.into_iter_gives (search_begin _ _ (λ i e. upward_off _ _ _ i e))
 
 pub get-requires : goal.get-requires
 get-requires c =
@@ -14,16 +14,16 @@ get-requires c =
 pub above-requires : goal.above-requires
 above-requires c = c.in-Some.ensures.steps.0.bound
 
-pub returns-then-some : goal.returns-then-some
-returns-then-some c =
+pub returns-then-has_any : goal.returns-then-has_any
+returns-then-has_any c =
     let m = walk_in c.loop-a.invariant.0 c.in-Some.ensures.steps.0 in
-    upward_found _ _ _ _ c.in-Some.ensures.steps.0.bound (sym (upward_at _ _ _ _ _ _ _ _ m c.get.ensures c.above.ensures c.sub.ensures c.has_any-in-loop-a.ensures) ∙ c.if-some.true)
+    upward_found _ _ _ _ c.in-Some.ensures.steps.0.bound (sym (upward_at _ _ _ _ _ _ _ _ m c.get.ensures c.above.ensures c.sub.ensures c.has_any-in-loop-a.ensures) ∙ c.if-has_any.true)
 
 pub loop-a-preserved : goal.loop-a-preserved
 loop-a-preserved c =
     let m = walk_in c.loop-a.invariant.0 c.in-Some.ensures.steps.0 in
     search_turn _ _ (λ i e. upward_off _ _ _ i e) c.loop-a.invariant c.in-Some.ensures.steps.0 c.in-Some.ensures.steps.1
-    (sym (upward_at _ _ _ _ _ _ _ _ m c.get.ensures c.above.ensures c.sub.ensures c.has_any-in-loop-a.ensures) ∙ c.if-some.false)
+    (sym (upward_at _ _ _ _ _ _ _ _ m c.get.ensures c.above.ensures c.sub.ensures c.has_any-in-loop-a.ensures) ∙ c.if-has_any.false)
 
 pub returns : goal.returns
 returns c = upward_end _ _ _ (search_end _ _ (λ i e. upward_off _ _ _ i e) _ c.in-None.ensures.steps.0 c.loop-a.invariant.1)

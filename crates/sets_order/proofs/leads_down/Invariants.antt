@@ -8,4 +8,4 @@ use Rattle.sets_order.specs.Down.{upward_from}
 use Rattle.sets_order.proofs.leads_down.Given as goal
 
 abbrev pub invariant-loop-a : goal.invariant-loop-a
-invariant-loop-a l = Walk l.initial.a-iterator.left l.a-iterator.left × (least (next l.a-iterator.left) (upward_from l.w l.base l.initial.a-iterator.left) ≡ next l.a-iterator.left)
+invariant-loop-a l = Walk l.fn.x l.a-iterator.left × (least (next l.a-iterator.left) (upward_from l.w l.base l.fn.x) ≡ next l.a-iterator.left)

@@ -23,11 +23,11 @@ ahead-left-requires-in-loop-nodes c =
 
 pub loop-nodes-smaller : goal.loop-nodes-smaller
 loop-nodes-smaller c =
-    see_less _ _ _ c.loop-nodes.invariant c.first-j.ensures c.behind.ensures c.bitor-seen.ensures
+    see_less _ _ _ c.loop-nodes.invariant c.first-j.ensures c.behind.ensures c.bitor_assign.ensures.after
 
 pub loop-nodes-preserved : goal.loop-nodes-preserved
 loop-nodes-preserved c =
-    see_turn _ _ _ c.loop-nodes.invariant c.first-j.ensures c.take_in.ensures c.behind.ensures c.bitor-seen.ensures c.ahead-left-in-loop-nodes.ensures
+    see_turn _ _ _ c.loop-nodes.invariant c.first-j.ensures c.take_in.ensures c.behind.ensures c.bitor_assign.ensures.after c.ahead-left-in-loop-nodes.ensures
 
 pub shape_of-w : goal.shape_of-w
 shape_of-w c = c.loop-nodes.invariant.kept.frame.len

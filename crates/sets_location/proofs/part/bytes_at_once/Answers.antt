@@ -6,7 +6,7 @@ use native.Mathlib.Omega.{arith}
 use Rattle.sets_location.proofs.part.bytes_at_once.Goals as goal
 
 pub loop-a-init : goal.loop-a-init
-loop-a-init c = bits_begin _ _ (to_off _ _ _ _ _)
+loop-a-init c = rw c.into_iter-a-iterator.ensures.into_iter_gives (bits_begin _ _ (to_off _ _ _ _ _))
 
 pub get-requires : goal.get-requires
 get-requires c =

@@ -7,4 +7,4 @@ use Rattle.sets_location.specs.Elements.{BitsTo, byte_to}
 use Rattle.sets_location.proofs.part.bytes_at_once.Given as goal
 
 abbrev pub invariant-loop-a : goal.invariant-loop-a
-invariant-loop-a l = Walk l.initial.a-iterator.left l.a-iterator.left × BitsTo (byte_to (table_in l.t l.n) l.w l.x l.y l.initial.a-iterator.left) l.m (next l.a-iterator.left)
+invariant-loop-a l = Walk l.fn.g.parts l.a-iterator.left × BitsTo (byte_to (table_in l.t l.n) l.w l.x l.y l.fn.g.parts) l.m (next l.a-iterator.left)

@@ -42,18 +42,18 @@ pub get-visible-requires : goal.get-visible-requires
 get-visible-requires c =
     let r = c.requires.1.given.room in let l = c.in-Some.ensures.steps.0.bound in omega (arith, r, l)
 
-pub loop-wide-smaller-then-some : goal.loop-wide-smaller-then-some
-loop-wide-smaller-then-some c =
+pub loop-wide-smaller-then-has_any : goal.loop-wide-smaller-then-has_any
+loop-wide-smaller-then-has_any c =
     walk_less c.in-Some.ensures.steps.0 c.in-Some.ensures.steps.1
 
-pub loop-wide-preserved-then-some : goal.loop-wide-preserved-then-some
-loop-wide-preserved-then-some c =
-    more_turn _ _ _ (seen_off _ _ _ _ _ _) c.loop-wide.invariant c.in-Some.ensures.steps.0 c.in-Some.ensures.steps.1 (seen_wide _ _ _ _ _ _ _ c.get-visible.ensures _ _ c.bitand-in-loop-wide.ensures c.has_any-in-loop-wide.ensures c.if-some.true c.shared-own.ensures)
+pub loop-wide-preserved-then-has_any : goal.loop-wide-preserved-then-has_any
+loop-wide-preserved-then-has_any c =
+    more_turn _ _ _ (seen_off _ _ _ _ _ _) c.loop-wide.invariant c.in-Some.ensures.steps.0 c.in-Some.ensures.steps.1 (seen_wide _ _ _ _ _ _ _ c.get-visible.ensures _ _ c.bitand-in-loop-wide.ensures c.has_any-in-loop-wide.ensures c.if-has_any.true c.shared-own.ensures)
 
 pub bytes_of-requires : goal.bytes_of-requires
 unfolding decode
 bytes_of-requires c =
-    (c.requires.0.pair.first.low, plain_among _ _ (upto_sets c.requires.1.given.opened _ _ c.requires.0.pair.first.low c.requires.0.pair.first.is _ _ _ _ _ _ _ _ c.of_agent.ensures c.above.ensures c.sub-upto.ensures c.wide_visible.ensures c.bitand.ensures c.without-wide.ensures c.plain_visible.ensures c.bitand-plain.ensures) c.bitand-else-some.ensures, c.requires.1.given.opened.fit)
+    (c.requires.0.pair.first.low, plain_among _ _ (upto_sets c.requires.1.given.opened _ _ c.requires.0.pair.first.low c.requires.0.pair.first.is _ _ _ _ _ _ _ _ c.of_agent.ensures c.above.ensures c.sub-upto.ensures c.wide_visible.ensures c.bitand.ensures c.without-wide.ensures c.plain_visible.ensures c.bitand-plain.ensures) c.bitand-else-has_any.ensures, c.requires.1.given.opened.fit)
 
 pub loop-wide-smaller : goal.loop-wide-smaller
 loop-wide-smaller c =
@@ -61,7 +61,7 @@ loop-wide-smaller c =
 
 pub loop-wide-preserved : goal.loop-wide-preserved
 loop-wide-preserved c =
-    more_turn _ _ _ (seen_off _ _ _ _ _ _) c.loop-wide.invariant c.in-Some.ensures.steps.0 c.in-Some.ensures.steps.1 (seen_part _ _ _ _ _ _ _ c.get-visible.ensures _ _ _ c.bitand-in-loop-wide.ensures c.has_any-in-loop-wide.ensures c.if-some.false c.bitand-else-some.ensures c.shared-own.ensures c.bytes_of.ensures)
+    more_turn _ _ _ (seen_off _ _ _ _ _ _) c.loop-wide.invariant c.in-Some.ensures.steps.0 c.in-Some.ensures.steps.1 (seen_part _ _ _ _ _ _ _ c.get-visible.ensures _ _ _ c.bitand-in-loop-wide.ensures c.has_any-in-loop-wide.ensures c.if-has_any.false c.bitand-else-has_any.ensures c.shared-own.ensures c.bytes_of.ensures)
 
 pub returns : goal.returns
 unfolding decode

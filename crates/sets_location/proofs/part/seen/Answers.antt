@@ -20,11 +20,11 @@ of_agent-requires c =
 
 pub loop-left-smaller : goal.loop-left-smaller
 loop-left-smaller c =
-    seeing_less _ _ c.requires.1.rows false _ _ _ _ c.loop-left.invariant c.first-v.ensures (sees_after _ _ c.after.ensures) c.of_agent.ensures c.bitor-all.ensures c.sub-left.ensures
+    seeing_less _ _ c.requires.1.rows false _ _ _ _ c.loop-left.invariant c.first-v.ensures (sees_after _ _ c.after.ensures) c.of_agent.ensures c.bitor_assign.ensures.after c.sub-left.ensures
 
 pub loop-left-preserved : goal.loop-left-preserved
 loop-left-preserved c =
-    seeing_turn _ _ c.requires.1.rows false _ _ _ _ c.loop-left.invariant c.first-v.ensures (sees_after _ _ c.after.ensures) c.of_agent.ensures c.bitor-all.ensures c.sub-left.ensures
+    seeing_turn _ _ c.requires.1.rows false _ _ _ _ c.loop-left.invariant c.first-v.ensures (sees_after _ _ c.after.ensures) c.of_agent.ensures c.bitor_assign.ensures.after c.sub-left.ensures
 
 pub returns : goal.returns
 returns c =

@@ -4,7 +4,7 @@ use Rattle.sets_of_rows.specs.Sift.{sift_begin, sift_turn, sift_end}
 use Rattle.sets_mutual.proofs.later.later_than.Goals as goal
 
 pub loop-j-init : goal.loop-j-init
-loop-j-init c = sift_begin _ _ _ c.none-r.ensures
+loop-j-init c = rw c.into_iter-j-iterator.ensures.into_iter_gives (sift_begin _ _ _ c.none-r.ensures)
 
 pub loop-j-preserved : goal.loop-j-preserved
 loop-j-preserved c =

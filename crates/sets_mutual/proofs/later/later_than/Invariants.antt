@@ -8,4 +8,4 @@ use Rattle.sets_mutual.specs.Later.{later_rank}
 use Rattle.sets_mutual.proofs.later.later_than.Given as goal
 
 abbrev pub invariant-loop-j : goal.invariant-loop-j
-invariant-loop-j l = Walk l.initial.j-iterator.left l.j-iterator.left × Sifted l.initial.j-iterator.left (later_rank (table_in l.t l.n) l.i) l.r (next l.j-iterator.left)
+invariant-loop-j l = Walk l.fn.x l.j-iterator.left × Sifted l.fn.x (later_rank (table_in l.t l.n) l.i) l.r (next l.j-iterator.left)

@@ -9,7 +9,7 @@ loop-q-init c = (search rules, classed_none _ _ _ c.none-a.ensures)
 
 pub loop-q-preserved : goal.loop-q-preserved
 loop-q-preserved c =
-    (search rules, classed_more _ _ _ c.loop-q.invariant.1 c.holds_class.ensures c.get.ensures c.only_if.ensures c.bitor-a.ensures)
+    (search rules, classed_more _ _ _ c.loop-q.invariant.1 c.holds_class.ensures c.get.ensures c.only_if.ensures c.bitor_assign.ensures.after)
 
 pub returns : goal.returns
 returns c =

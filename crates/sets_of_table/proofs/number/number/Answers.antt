@@ -5,7 +5,7 @@ use Rattle.sets_of_table.specs.Number.{number_begin, number_turn, number_end, nu
 use Rattle.sets_of_table.proofs.number.number.Goals as goal
 
 pub loop-i-init : goal.loop-i-init
-loop-i-init c = (refl, refl, number_begin _ _ _ _)
+loop-i-init c = rw c.into_iter-i-iterator.ensures.into_iter_gives ((refl, refl, number_begin _ _ _ _))
 
 pub number_row-l-requires : goal.number_row-l-requires
 number_row-l-requires c =

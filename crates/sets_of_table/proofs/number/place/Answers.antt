@@ -7,7 +7,7 @@ use borrow.Author.Rules.{rules}
 use Rattle.sets_of_table.proofs.number.place.Goals as goal
 
 pub loop-i-init : goal.loop-i-init
-loop-i-init c = (refl, within_refl _ _ _, placed_begin _ _ _ _ _ (search rules) c.clear.ensures)
+loop-i-init c = rw c.into_iter-i-iterator.ensures.into_iter_gives ((refl, within_refl _ _ _, placed_begin _ _ _ _ _ (search rules) c.clear.ensures))
 
 pub put_bit-requires : goal.put_bit-requires
 put_bit-requires c =

@@ -9,4 +9,4 @@ use Rattle.sets_of_table.specs.Placed.{PlacedTo}
 use Rattle.sets_of_table.proofs.number.place.Given as goal
 
 abbrev pub invariant-loop-i : goal.invariant-loop-i
-invariant-loop-i l = (length l.s ≡ length l.initial.s) × Within l.base (l.base + 2 * ROWS) l.initial.s l.s × (Walk l.initial.i-iterator.left l.i-iterator.left × PlacedTo l.base l.loc l.initial.i-iterator.left (next l.i-iterator.left) l.s)
+invariant-loop-i l = (length l.s ≡ length l.initial.s) × Within l.base (l.base + 2 * ROWS) l.initial.s l.s × (Walk l.fn.x l.i-iterator.left × PlacedTo l.base l.loc l.fn.x (next l.i-iterator.left) l.s)

@@ -7,7 +7,7 @@ use borrow.Author.Rules.{rules}
 use Rattle.sets_of_table.proofs.number.spread.Goals as goal
 
 pub loop-i-init : goal.loop-i-init
-loop-i-init c = (refl, fill_begin _ _ _ _ (search rules) c.clear.ensures)
+loop-i-init c = rw c.into_iter-i-iterator.ensures.into_iter_gives ((refl, fill_begin _ _ _ _ (search rules) c.clear.ensures))
 
 pub get-requires : goal.get-requires
 get-requires c =

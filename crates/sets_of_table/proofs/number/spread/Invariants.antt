@@ -8,4 +8,4 @@ use Rattle.sets_of_table.specs.Placed.{of_number}
 use Rattle.sets_of_table.proofs.number.spread.Given as goal
 
 abbrev pub invariant-loop-i : goal.invariant-loop-i
-invariant-loop-i l = (length l.s ≡ length l.initial.s) × Filling l.base l.initial.i-iterator.left (of_number l.by l.loc) l.initial.s l.i-iterator.left l.s
+invariant-loop-i l = (length l.s ≡ length l.initial.s) × Filling l.base l.fn.x (of_number l.by l.loc) l.initial.s l.i-iterator.left l.s

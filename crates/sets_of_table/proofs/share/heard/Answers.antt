@@ -10,7 +10,7 @@ loop-q-init c = (search rules, hears_none _ _ _ c.none-x.ensures)
 
 pub loop-q-preserved : goal.loop-q-preserved
 loop-q-preserved c =
-    (search rules, hears_more _ _ _ c.loop-q.invariant.1 c.get.ensures c.get-in-loop-q.ensures c.bitand-y.ensures c.bitor-x.ensures)
+    (search rules, hears_more _ _ _ c.loop-q.invariant.1 c.get.ensures c.get-in-loop-q.ensures c.bitand-y.ensures c.bitor_assign.ensures.after)
 
 pub returns : goal.returns
 returns c =

@@ -10,7 +10,7 @@ loop-a-init c = (search rules, hosts_none _ _ _ c.none-x.ensures)
 
 pub loop-a-preserved : goal.loop-a-preserved
 loop-a-preserved c =
-    (search rules, hosts_more _ _ _ c.loop-a.invariant.1 c.is_host.ensures c.get-v.ensures c.only_if.ensures c.bitor-x.ensures)
+    (search rules, hosts_more _ _ _ c.loop-a.invariant.1 c.is_host.ensures c.get-v.ensures c.only_if.ensures c.bitor_assign.ensures.after)
 
 pub returns : goal.returns
 returns c =

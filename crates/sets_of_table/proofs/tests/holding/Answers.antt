@@ -9,7 +9,7 @@ loop-m-init c = (search rules, held_none _ _ _ c.none-a.ensures)
 
 pub loop-m-preserved : goal.loop-m-preserved
 loop-m-preserved c =
-    (search rules, held_more _ _ _ c.loop-m.invariant.1 c.holds_class-b.ensures c.get.ensures c.only_if.ensures c.bitor-a.ensures)
+    (search rules, held_more _ _ _ c.loop-m.invariant.1 c.holds_class-b.ensures c.get.ensures c.only_if.ensures c.bitor_assign.ensures.after)
 
 pub returns : goal.returns
 returns c =

@@ -69,7 +69,7 @@ loop-k-preserved c =
     let put = c.put_bit.ensures in (
       search rules,
       e,
-      depends_turn _ _ _ _ x y (omega (arith, x, h.0)) (omega (arith, y, h.1)) low inv.2 put c.bit.ensures c.bit-in-loop-k.ensures c.bitor.ensures c.bitor-ends.ensures,
+      depends_turn _ _ _ _ x y (omega (arith, x, h.0)) (omega (arith, y, h.1)) low inv.2 put c.bit.ensures c.bit-in-loop-k.ensures c.bitor.ensures c.bitor_assign.ensures.after,
       within_trans inv.3 (within_widen DEPENDS DEPENDS_END (omega arith) (omega (arith, x, h.0, low)) put.frame),
     )
 

@@ -22,7 +22,7 @@ fill_reach-requires c =
     asks_none c.requires c.of_none-k.ensures (within_cleared SYSTEM SYSTEM_END (omega arith) c.clear.ensures)
 
 pub loop-i-init : goal.loop-i-init
-loop-i-init c = (add_begin _ _ _ _, within_refl _ _ _)
+loop-i-init c = rw c.into_iter-i-iterator.ensures.into_iter_gives ((add_begin _ _ _ _, within_refl _ _ _))
 
 pub get-to-requires : goal.get-to-requires
 get-to-requires c =

@@ -11,4 +11,4 @@ use Rattle.sets_of_rows.specs.First.{next}
 use Rattle.sets_order.proofs.system.fill_system.Given as goal
 
 abbrev pub invariant-loop-i : goal.invariant-loop-i
-invariant-loop-i l = Adding SYSTEM l.initial.i-iterator.left (λ i j. ltb j l.n and reached_at (table_in l.t l.n) 16 i j) l.initial.w l.i-iterator.left l.w × Within SYSTEM SYSTEM_END l.initial.w l.w
+invariant-loop-i l = Adding SYSTEM l.fn.ends (λ i j. ltb j l.n and reached_at (table_in l.t l.n) 16 i j) l.initial.w l.i-iterator.left l.w × Within SYSTEM SYSTEM_END l.initial.w l.w

@@ -17,9 +17,9 @@ join_heads-requires c =
 pub shape_of-w : goal.shape_of-w
 shape_of-w c = c.join_heads.ensures.frame.len
 
-pub returns-then-some : goal.returns-then-some
-returns-then-some c = c.join_heads.ensures
+pub returns-then-has_any : goal.returns-then-has_any
+returns-then-has_any c = c.join_heads.ensures
 
-pub returns-else-some : goal.returns-else-some
-returns-else-some c =
-    take_none _ (few c.requires.1.given.opened) c.getters-gets.ensures (sym c.has_any.ensures ∙ c.if-some.false)
+pub returns-else-has_any : goal.returns-else-has_any
+returns-else-has_any c =
+    take_none _ (few c.requires.1.given.opened) c.getters-gets.ensures (sym c.has_any.ensures ∙ c.if-has_any.false)

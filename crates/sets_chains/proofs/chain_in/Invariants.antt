@@ -7,8 +7,5 @@ use Rattle.sets_of_rows.specs.First.{next}
 use Rattle.sets_chains.specs.Chained.{InTurning}
 use Rattle.sets_chains.proofs.chain_in.Given as goal
 
-abbrev pub invariant-loop-narrow : goal.invariant-loop-narrow
-invariant-loop-narrow l = (length l.w ≡ length l.initial.w) × InTurning (table_in l.t l.n) l.n l.q l.initial.v-iterator.left l.initial.w l.v-iterator.left l.w
-
-abbrev pub decreases-loop-narrow : goal.decreases-loop-narrow
-decreases-loop-narrow l = ROWS - next l.v-iterator.left
+abbrev pub invariant-loop-v : goal.invariant-loop-v
+invariant-loop-v l = (length l.w ≡ length l.initial.w) × InTurning (table_in l.t l.n) l.n l.q l.initial.v-iterator.left l.initial.w l.v-iterator.left l.w

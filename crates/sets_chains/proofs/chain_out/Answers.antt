@@ -18,46 +18,42 @@ get-own-requires c = omega (arith, c.requires.0, c.requires.1.opened.space)
 pub rows-requires : goal.rows-requires
 rows-requires c = omega (arith, c.requires.1.opened.space)
 
-pub loop-broad-init : goal.loop-broad-init
-loop-broad-init c =
+pub loop-a-init : goal.loop-a-init
+loop-a-init c =
     (refl, out_begin c.requires.1.opened _ _ c.requires.2)
 
 pub get-requires : goal.get-requires
 get-requires c =
-    omega (arith, c.in-Some.ensures.steps.0.bound, c.requires.1.room, c.loop-broad.invariant.0)
+    omega (arith, c.in-Some.ensures.steps.0.bound, c.requires.1.room, c.loop-a.invariant.0)
 
 pub reach-requires : goal.reach-requires
 reach-requires c =
-    ((member_in _ (out_rows c.requires.1.opened _ (omega (arith, c.requires.0)) c.rows.ensures c.get-own.ensures (started c.into_iter-a-iterator.ensures.into_iter_gives c.bitand.ensures)) (walk_in c.loop-broad.invariant.1.walk c.in-Some.ensures.steps.0)).0, c.requires.1.opened)
+    ((member_in _ (out_rows c.requires.1.opened _ (omega (arith, c.requires.0)) c.rows.ensures c.get-own.ensures (started c.into_iter-a-iterator.ensures.into_iter_gives c.bitand-a-items.ensures)) (walk_in c.loop-a.invariant.1.walk c.in-Some.ensures.steps.0)).0, c.requires.1.opened)
 
 pub union-requires : goal.union-requires
 union-requires c =
-    omega (arith, c.requires.1.room, c.loop-broad.invariant.0)
+    omega (arith, c.requires.1.room, c.loop-a.invariant.0)
 
 pub put-requires : goal.put-requires
 put-requires c =
-    omega (arith, c.in-Some.ensures.steps.0.bound, c.requires.1.room, c.loop-broad.invariant.0)
+    omega (arith, c.in-Some.ensures.steps.0.bound, c.requires.1.room, c.loop-a.invariant.0)
 
-pub loop-broad-smaller : goal.loop-broad-smaller
-loop-broad-smaller c =
-    walk_less c.in-Some.ensures.steps.0 c.in-Some.ensures.steps.1
-
-pub loop-broad-preserved : goal.loop-broad-preserved
-loop-broad-preserved c =
+pub loop-a-preserved : goal.loop-a-preserved
+loop-a-preserved c =
     let o = c.requires.1.opened in
-    let inv = c.loop-broad.invariant.1 in
-    let r = (out_rows c.requires.1.opened _ (omega (arith, c.requires.0)) c.rows.ensures c.get-own.ensures (started c.into_iter-a-iterator.ensures.into_iter_gives c.bitand.ensures)) in
+    let inv = c.loop-a.invariant.1 in
+    let r = (out_rows c.requires.1.opened _ (omega (arith, c.requires.0)) c.rows.ensures c.get-own.ensures (started c.into_iter-a-iterator.ensures.into_iter_gives c.bitand-a-items.ensures)) in
     let m = member_in _ r (walk_in inv.walk c.in-Some.ensures.steps.0) in
     let e = eqb-true _ _ (split m.1).1 in (
-      c.put.ensures.frame.len ∙ c.loop-broad.invariant.0,
+      c.put.ensures.frame.len ∙ c.loop-a.invariant.0,
       out_next o _ _ inv c.in-Some.ensures.steps.0 c.in-Some.ensures.steps.1
           (out_turn o _ _ _ _ _ _ _ _ _ _ m.0 (split m.1).0 e (out_wide o _ r inv) (rows_at c.get.ensures (out_own o _ r inv c.in-Some.ensures.steps.0 m.0 (split m.1).0 e)) (c.broader-broad.ensures _ _ o) c.reach.ensures c.bitand.ensures c.bitand-next.ensures c.union.ensures c.bitor-all.ensures)
           c.put.ensures,
     )
 
 pub shape_of-w : goal.shape_of-w
-shape_of-w c = c.loop-broad.invariant.0
+shape_of-w c = c.loop-a.invariant.0
 
 pub returns : goal.returns
 returns c =
-    out_end c.requires.1.opened _ (out_rows c.requires.1.opened _ (omega (arith, c.requires.0)) c.rows.ensures c.get-own.ensures (started c.into_iter-a-iterator.ensures.into_iter_gives c.bitand.ensures)) (sym c.has_any.ensures ∙ c.loop-broad-test.false) c.loop-broad.invariant.1
+    out_end c.requires.1.opened _ (out_rows c.requires.1.opened _ (omega (arith, c.requires.0)) c.rows.ensures c.get-own.ensures (started c.into_iter-a-iterator.ensures.into_iter_gives c.bitand-a-items.ensures)) c.in-None.ensures.steps.0 c.loop-a.invariant.1

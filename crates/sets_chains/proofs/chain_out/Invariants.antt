@@ -7,8 +7,5 @@ use Rattle.sets_of_rows.specs.First.{next}
 use Rattle.sets_chains.specs.Chained.{OutTurning}
 use Rattle.sets_chains.proofs.chain_out.Given as goal
 
-abbrev pub invariant-loop-broad : goal.invariant-loop-broad
-invariant-loop-broad l = (length l.w ≡ length l.initial.w) × OutTurning (table_in l.t l.n) l.n l.q l.initial.a-iterator.left l.initial.w l.a-iterator.left l.w
-
-abbrev pub decreases-loop-broad : goal.decreases-loop-broad
-decreases-loop-broad l = ROWS - next l.a-iterator.left
+abbrev pub invariant-loop-a : goal.invariant-loop-a
+invariant-loop-a l = (length l.w ≡ length l.initial.w) × OutTurning (table_in l.t l.n) l.n l.q l.initial.a-iterator.left l.initial.w l.a-iterator.left l.w

@@ -13,8 +13,8 @@ pub prepare-requires : goal.prepare-requires
 unfolding decode
 prepare-requires c = let pre = c.requires in (c.chains-chains.ensures, pre.0, pre.1)
 
-pub rows-left-requires : goal.rows-left-requires
-rows-left-requires c =
+pub rows-a-items-requires : goal.rows-a-items-requires
+rows-a-items-requires c =
     let a = c.requires.0.opened.space in omega arith
 
 pub loop-a-init : goal.loop-a-init
@@ -25,7 +25,7 @@ unfolding decode makes
 make-requires c =
     let pre = c.requires in
     let inv = c.loop-a.invariant in
-    let rows = rows_at (c.into_iter-a-iterator.ensures.into_iter_gives ∙ c.rows.ensures) (says_rows pre.0.opened.known.tested.marked.available) in
+    let rows = rows_at (c.into_iter-a-iterator.ensures.into_iter_gives ∙ c.rows-a-items.ensures) (says_rows pre.0.opened.known.tested.marked.available) in
     let m = member_in _ rows (walk_in inv.walk c.in-Some.ensures.steps.0) in
     (record { low = m.0; makes = m.1 }, inv.ready)
 
@@ -41,5 +41,5 @@ pub returns : goal.returns
 unfolding makes
 returns c =
     let pre = c.requires in
-    let rows = rows_at (c.into_iter-a-iterator.ensures.into_iter_gives ∙ c.rows.ensures) (says_rows pre.0.opened.known.tested.marked.available) in
+    let rows = rows_at (c.into_iter-a-iterator.ensures.into_iter_gives ∙ c.rows-a-items.ensures) (says_rows pre.0.opened.known.tested.marked.available) in
     make_end rows c.in-None.ensures.steps.0 c.prepare.ensures.frame c.loop-a.invariant

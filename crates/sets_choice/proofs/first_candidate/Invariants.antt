@@ -8,8 +8,5 @@ use Rattle.sets_of_rows.specs.Walk.{Walk}
 use Rattle.sets_choice.specs.Choosing.{candidate_in}
 use Rattle.sets_choice.proofs.first_candidate.Given as goal
 
-abbrev pub invariant-loop-blank : goal.invariant-loop-blank
-invariant-loop-blank l = Walk l.blank.writers l.source-iterator.left × (least (next l.source-iterator.left) (candidate_in (table_in l.t l.n) l.n l.blank.y) ≡ next l.source-iterator.left)
-
-abbrev pub decreases-loop-blank : goal.decreases-loop-blank
-decreases-loop-blank l = ROWS - next l.source-iterator.left
+abbrev pub invariant-loop-source : goal.invariant-loop-source
+invariant-loop-source l = Walk l.blank.writers l.source-iterator.left × (least (next l.source-iterator.left) (candidate_in (table_in l.t l.n) l.n l.blank.y) ≡ next l.source-iterator.left)

@@ -28,46 +28,43 @@ get-requires-2 c =
     let r = pre.1.judged.fitting.room in
     omega (arith, pre.0, e, f, r)
 
-pub loop-blank-init : goal.loop-blank-init
-loop-blank-init c =
+pub loop-z-init : goal.loop-z-init
+loop-z-init c =
     let pre = c.requires in
     let later = later_rows pre.1 pre.0 c.get.ensures c.bitand.ensures in
     let none = sym c.has_any.ensures ∙ c.if-has_any.false in
-    let rows = some_rows pre.1 pre.0 c.get-2.ensures (started c.into_iter-z-iterator.ensures.into_iter_gives c.bitand.ensures) in
+    let rows = some_rows pre.1 pre.0 c.get-2.ensures (started c.into_iter-z-iterator.ensures.into_iter_gives c.bitand-z-items.ensures) in
     search_begin _ _ (between_off pre.1 pre.0 later none rows)
 
 pub overwrites-requires : goal.overwrites-requires
 overwrites-requires c =
     let pre = c.requires in
-    let rows = some_rows pre.1 pre.0 c.get-2.ensures (started c.into_iter-z-iterator.ensures.into_iter_gives c.bitand.ensures) in
-    let m = member_in _ rows (walk_in c.loop-blank.invariant.0 c.in-Some.ensures.steps.0) in
+    let rows = some_rows pre.1 pre.0 c.get-2.ensures (started c.into_iter-z-iterator.ensures.into_iter_gives c.bitand-z-items.ensures) in
+    let m = member_in _ rows (walk_in c.loop-z.invariant.0 c.in-Some.ensures.steps.0) in
     let p = pre.1 in
     (record { first = pre.0; second = m.0; third = p.reader.low }, p.judged)
 
 pub returns-then-overwrites-gt0 : goal.returns-then-overwrites-gt0
 returns-then-overwrites-gt0 c =
     let pre = c.requires in
-    let rows = some_rows pre.1 pre.0 c.get-2.ensures (started c.into_iter-z-iterator.ensures.into_iter_gives c.bitand.ensures) in
-    let m = member_in _ rows (walk_in c.loop-blank.invariant.0 c.in-Some.ensures.steps.0) in
+    let rows = some_rows pre.1 pre.0 c.get-2.ensures (started c.into_iter-z-iterator.ensures.into_iter_gives c.bitand-z-items.ensures) in
+    let m = member_in _ rows (walk_in c.loop-z.invariant.0 c.in-Some.ensures.steps.0) in
     sym (between_hit pre.1 pre.0 _ _ m.0 m.1 c.overwrites.ensures c.if-overwrites-gt0.true)
 
-pub loop-blank-smaller : goal.loop-blank-smaller
-loop-blank-smaller c = walk_less c.in-Some.ensures.steps.0 c.in-Some.ensures.steps.1
-
-pub loop-blank-preserved : goal.loop-blank-preserved
-loop-blank-preserved c =
+pub loop-z-preserved : goal.loop-z-preserved
+loop-z-preserved c =
     let pre = c.requires in
     let later = later_rows pre.1 pre.0 c.get.ensures c.bitand.ensures in
     let none = sym c.has_any.ensures ∙ c.if-has_any.false in
-    let rows = some_rows pre.1 pre.0 c.get-2.ensures (started c.into_iter-z-iterator.ensures.into_iter_gives c.bitand.ensures) in
-    let m = member_in _ rows (walk_in c.loop-blank.invariant.0 c.in-Some.ensures.steps.0) in
+    let rows = some_rows pre.1 pre.0 c.get-2.ensures (started c.into_iter-z-iterator.ensures.into_iter_gives c.bitand-z-items.ensures) in
+    let m = member_in _ rows (walk_in c.loop-z.invariant.0 c.in-Some.ensures.steps.0) in
     let clear = between_clear pre.1 pre.0 later none _ _ m.0 c.overwrites.ensures c.if-overwrites-gt0.false in
-    search_turn _ _ (between_off pre.1 pre.0 later none rows) c.loop-blank.invariant c.in-Some.ensures.steps.0 c.in-Some.ensures.steps.1 clear
+    search_turn _ _ (between_off pre.1 pre.0 later none rows) c.loop-z.invariant c.in-Some.ensures.steps.0 c.in-Some.ensures.steps.1 clear
 
 pub returns : goal.returns
 returns c =
     let pre = c.requires in
     let later = later_rows pre.1 pre.0 c.get.ensures c.bitand.ensures in
     let none = sym c.has_any.ensures ∙ c.if-has_any.false in
-    let rows = some_rows pre.1 pre.0 c.get-2.ensures (started c.into_iter-z-iterator.ensures.into_iter_gives c.bitand.ensures) in
-    sym (between_none pre.1 pre.0 (search_end _ _ (between_off pre.1 pre.0 later none rows) _ (sym c.has_any-in-loop-blank.ensures ∙ c.loop-blank-test.false) c.loop-blank.invariant.1))
+    let rows = some_rows pre.1 pre.0 c.get-2.ensures (started c.into_iter-z-iterator.ensures.into_iter_gives c.bitand-z-items.ensures) in
+    sym (between_none pre.1 pre.0 (search_end _ _ (between_off pre.1 pre.0 later none rows) _ c.in-None.ensures.steps.0 c.loop-z.invariant.1))

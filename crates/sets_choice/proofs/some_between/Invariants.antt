@@ -8,8 +8,5 @@ use Rattle.sets_of_rows.specs.Walk.{Walk}
 use Rattle.sets_choice.specs.Choosing.{between_in}
 use Rattle.sets_choice.proofs.some_between.Given as goal
 
-abbrev pub invariant-loop-blank : goal.invariant-loop-blank
-invariant-loop-blank l = Walk l.initial.z-iterator.left l.z-iterator.left × (least (next l.z-iterator.left) (between_in (table_in l.t l.n) l.n l.blank.y l.source) ≡ next l.z-iterator.left)
-
-abbrev pub decreases-loop-blank : goal.decreases-loop-blank
-decreases-loop-blank l = ROWS - next l.z-iterator.left
+abbrev pub invariant-loop-z : goal.invariant-loop-z
+invariant-loop-z l = Walk l.initial.z-iterator.left l.z-iterator.left × (least (next l.z-iterator.left) (between_in (table_in l.t l.n) l.n l.blank.y l.source) ≡ next l.z-iterator.left)

@@ -41,4 +41,4 @@ pub returns : goal.returns
 returns c =
     let pre = c.requires in
     let sifted = sift_end _ _ _ _ c.in-None.ensures.steps.0 c.loop-z.invariant.1 in
-    writers_rows pre.1.given.opened pre.1.judging _ _ _ _ _ pre.0 c.get.ensures c.rows.ensures (started c.into_iter-z-iterator.ensures.into_iter_gives c.bitand.ensures) sifted
+    writers_rows pre.1.given.opened pre.1.judging _ _ _ _ _ pre.0 c.get.ensures c.rows.ensures (started c.into_iter-z-iterator.ensures.into_iter_gives c.bitand-z-items.ensures) sifted

@@ -6,8 +6,8 @@ use Rattle.sets_closure.specs.Widest.{synced_off, synced_at, synced_found, synce
 use native.Mathlib.Omega.{arith}
 use Rattle.sets_closure.proofs.is_synced.Goals as goal
 
-pub loop-k-init : goal.loop-k-init
-loop-k-init c = search_begin _ _ (λ i e. synced_off _ _ _ i e)
+pub loop-a-init : goal.loop-a-init
+loop-a-init c = rw c.into_iter-a-iterator.ensures.into_iter_gives (search_begin _ _ (λ i e. synced_off _ _ _ i e))
 
 pub get-requires : goal.get-requires
 get-requires c =
@@ -15,20 +15,16 @@ get-requires c =
 
 pub returns-then-has_any : goal.returns-then-has_any
 returns-then-has_any c =
-    let m = walk_in c.loop-k.invariant.0 c.in-Some.ensures.steps.0 in
+    let m = walk_in c.loop-a.invariant.0 c.in-Some.ensures.steps.0 in
     synced_found _ _ _ _ (c.requires.2 _ m)
-    (sym (synced_at _ _ _ _ _ _ _ (given_few c.requires.0) m (grid_at c.requires.1 (c.requires.2 _ m) c.get.ensures) c.bitand.ensures c.has_any-in-loop-k.ensures) ∙ c.if-has_any.true)
+    (sym (synced_at _ _ _ _ _ _ _ (given_few c.requires.0) m (grid_at c.requires.1 (c.requires.2 _ m) c.get.ensures) c.bitand.ensures c.has_any-in-loop-a.ensures) ∙ c.if-has_any.true)
 
-pub loop-k-smaller : goal.loop-k-smaller
-loop-k-smaller c =
-    walk_less c.in-Some.ensures.steps.0 c.in-Some.ensures.steps.1
-
-pub loop-k-preserved : goal.loop-k-preserved
-loop-k-preserved c =
-    let m = walk_in c.loop-k.invariant.0 c.in-Some.ensures.steps.0 in
-    search_turn _ _ (λ i e. synced_off _ _ _ i e) c.loop-k.invariant c.in-Some.ensures.steps.0 c.in-Some.ensures.steps.1
-    (sym (synced_at _ _ _ _ _ _ _ (given_few c.requires.0) m (grid_at c.requires.1 (c.requires.2 _ m) c.get.ensures) c.bitand.ensures c.has_any-in-loop-k.ensures) ∙ c.if-has_any.false)
+pub loop-a-preserved : goal.loop-a-preserved
+loop-a-preserved c =
+    let m = walk_in c.loop-a.invariant.0 c.in-Some.ensures.steps.0 in
+    search_turn _ _ (λ i e. synced_off _ _ _ i e) c.loop-a.invariant c.in-Some.ensures.steps.0 c.in-Some.ensures.steps.1
+    (sym (synced_at _ _ _ _ _ _ _ (given_few c.requires.0) m (grid_at c.requires.1 (c.requires.2 _ m) c.get.ensures) c.bitand.ensures c.has_any-in-loop-a.ensures) ∙ c.if-has_any.false)
 
 pub returns : goal.returns
 returns c =
-    synced_end _ _ _ (given_few c.requires.0) (search_end _ _ (λ i e. synced_off _ _ _ i e) _ (sym c.has_any.ensures ∙ c.loop-k-test.false) c.loop-k.invariant.1)
+    synced_end _ _ _ (given_few c.requires.0) (search_end _ _ (λ i e. synced_off _ _ _ i e) _ c.in-None.ensures.steps.0 c.loop-a.invariant.1)

@@ -8,8 +8,5 @@ use Rattle.sets_of_rows.specs.Walk.{Walk}
 use Rattle.sets_closure.specs.Widest.{synced_from}
 use Rattle.sets_closure.proofs.is_synced.Given as goal
 
-abbrev pub invariant-loop-k : goal.invariant-loop-k
-invariant-loop-k l = Walk l.fn.k.releases l.a-iterator.left × (least (next l.a-iterator.left) (synced_from (table_in l.t l.n) l.n l.k) ≡ next l.a-iterator.left)
-
-abbrev pub decreases-loop-k : goal.decreases-loop-k
-decreases-loop-k l = ROWS - next l.a-iterator.left
+abbrev pub invariant-loop-a : goal.invariant-loop-a
+invariant-loop-a l = Walk l.fn.k.releases l.a-iterator.left × (least (next l.a-iterator.left) (synced_from (table_in l.t l.n) l.n l.k) ≡ next l.a-iterator.left)

@@ -11,8 +11,8 @@ use Rattle.sets_control.proofs.instance.Goals as goal
 pub start-name-requires : goal.start-name-requires
 start-name-requires c = let a = few c.requires.1 in omega (arith, c.requires.0)
 
-pub get-left-requires : goal.get-left-requires
-get-left-requires c = let a = c.requires.1.space in omega arith
+pub get-d-items-requires : goal.get-d-items-requires
+get-d-items-requires c = let a = c.requires.1.space in omega arith
 
 pub loop-d-init : goal.loop-d-init
 loop-d-init c = sift_begin _ _ _ c.none-all.ensures
@@ -31,4 +31,4 @@ loop-d-preserved c =
 pub returns : goal.returns
 unfolding decode
 returns c =
-    instance_rows c.requires.1 _ _ _ c.get-left.ensures (sift_end _ _ _ _ c.in-None.ensures.steps.0 c.loop-d.invariant.1)
+    instance_rows c.requires.1 _ _ _ (c.into_iter-d-iterator.ensures.into_iter_gives ∙ c.get-d-items.ensures) (sift_end _ _ _ _ c.in-None.ensures.steps.0 c.loop-d.invariant.1)

@@ -11,8 +11,5 @@ use Rattle.model.specs.Moment.{itself}
 use Rattle.model.specs.Happens.{inter_thread}
 use Rattle.sets_happens.proofs.add_at.Given as goal
 
-abbrev pub invariant-loop-k : goal.invariant-loop-k
-invariant-loop-k l = Adding HAPPENS l.initial.i-iterator.left (λ i j. ltb j l.n and inter_thread (table_in l.t l.n) l.c (itself i) (itself j)) l.initial.w l.i-iterator.left l.w × Within HAPPENS AVAILABLE_AT l.initial.w l.w
-
-abbrev pub decreases-loop-k : goal.decreases-loop-k
-decreases-loop-k l = ROWS - next l.i-iterator.left
+abbrev pub invariant-loop-i : goal.invariant-loop-i
+invariant-loop-i l = Adding HAPPENS l.initial.i-iterator.left (λ i j. ltb j l.n and inter_thread (table_in l.t l.n) l.c (itself i) (itself j)) l.initial.w l.i-iterator.left l.w × Within HAPPENS AVAILABLE_AT l.initial.w l.w

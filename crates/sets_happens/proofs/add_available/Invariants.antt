@@ -10,8 +10,5 @@ use Rattle.sets_of_rows.specs.First.{next}
 use Rattle.sets_happens.specs.Behind.{available_to, available_visible, available_available}
 use Rattle.sets_happens.proofs.add_available.Given as goal
 
-abbrev pub invariant-loop-k : goal.invariant-loop-k
-invariant-loop-k l = Adding AVAILABLE_AT l.fn.k.available (λ a j. ltb j l.n and available_to (table_in l.t l.n) l.c a j) l.initial.w l.a-iterator.left l.w × Adding AVAILABLE_VISIBLE l.fn.k.available (λ a j. ltb j l.n and available_visible (table_in l.t l.n) l.c a j) l.initial.w l.a-iterator.left l.w × Adding AVAILABLE_AVAILABLE l.fn.k.available (λ a j. ltb j l.n and available_available (table_in l.t l.n) l.c a j) l.initial.w l.a-iterator.left l.w × Within AVAILABLE_AT VISIBLE_VISIBLE l.initial.w l.w
-
-abbrev pub decreases-loop-k : goal.decreases-loop-k
-decreases-loop-k l = ROWS - next l.a-iterator.left
+abbrev pub invariant-loop-a : goal.invariant-loop-a
+invariant-loop-a l = Adding AVAILABLE_AT l.fn.k.available (λ a j. ltb j l.n and available_to (table_in l.t l.n) l.c a j) l.initial.w l.a-iterator.left l.w × Adding AVAILABLE_VISIBLE l.fn.k.available (λ a j. ltb j l.n and available_visible (table_in l.t l.n) l.c a j) l.initial.w l.a-iterator.left l.w × Adding AVAILABLE_AVAILABLE l.fn.k.available (λ a j. ltb j l.n and available_available (table_in l.t l.n) l.c a j) l.initial.w l.a-iterator.left l.w × Within AVAILABLE_AT VISIBLE_VISIBLE l.initial.w l.w

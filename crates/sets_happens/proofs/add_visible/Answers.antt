@@ -9,31 +9,27 @@ use Rattle.sets_happens.specs.Behind.{reached_kept, visible_later, visibles_is}
 use native.Mathlib.Omega.{arith}
 use Rattle.sets_happens.proofs.add_visible.Goals as goal
 
-pub loop-k-init : goal.loop-k-init
-loop-k-init c = (add_begin _ _ _ _, within_refl _ _ _)
+pub loop-v-init : goal.loop-v-init
+loop-v-init c = rw c.into_iter-v-iterator.ensures.into_iter_gives ((add_begin _ _ _ _, within_refl _ _ _))
 
 pub after-requires : goal.after-requires
 after-requires c =
-    ((member_in _ c.requires.concerns.visible (walk_in c.loop-k.invariant.0.walk c.in-Some.ensures.steps.0)).0, c.requires.given.opened)
+    ((member_in _ c.requires.concerns.visible (walk_in c.loop-v.invariant.0.walk c.in-Some.ensures.steps.0)).0, c.requires.given.opened)
 
 pub join_visible-requires : goal.join_visible-requires
 join_visible-requires c =
-    let a = c.requires.given.room in let d = c.loop-k.invariant.1.len in (c.in-Some.ensures.steps.0.bound, omega arith)
+    let a = c.requires.given.room in let d = c.loop-v.invariant.1.len in (c.in-Some.ensures.steps.0.bound, omega arith)
 
-pub loop-k-smaller : goal.loop-k-smaller
-loop-k-smaller c =
-    walk_less c.in-Some.ensures.steps.0 c.in-Some.ensures.steps.1
-
-pub loop-k-preserved : goal.loop-k-preserved
-loop-k-preserved c =
-    let inv = c.loop-k.invariant in
+pub loop-v-preserved : goal.loop-v-preserved
+loop-v-preserved c =
+    let inv = c.loop-v.invariant in
     let join = c.join_visible.ensures in
-    let q = reached_kept (within_widen HAPPENS HAPPENS_END (omega arith) (omega arith) c.loop-k.invariant.1) c.requires in
+    let q = reached_kept (within_widen HAPPENS HAPPENS_END (omega arith) (omega arith) c.loop-v.invariant.1) c.requires in
     (add_turn _ _ _ _ inv.0 c.in-Some.ensures.steps.0 c.in-Some.ensures.steps.1 (adds_cong (visible_later q _ _ c.after.ensures c.bitand-r.ensures) join.row), within_trans inv.1 join.frame)
 
 pub shape_of-w : goal.shape_of-w
-shape_of-w c = c.loop-k.invariant.1.len
+shape_of-w c = c.loop-v.invariant.1.len
 
 pub returns : goal.returns
 returns c =
-    added_grid _ _ (given_few c.requires.given) c.requires.concerns.visible (λ i j l m. visibles_is c.requires i j l) _ (sym c.has_any.ensures ∙ c.loop-k-test.false) c.loop-k.invariant.0 c.loop-k.invariant.1
+    added_grid _ _ (given_few c.requires.given) c.requires.concerns.visible (λ i j l m. visibles_is c.requires i j l) _ c.in-None.ensures.steps.0 c.loop-v.invariant.0 c.loop-v.invariant.1

@@ -10,8 +10,5 @@ use Rattle.sets_of_rows.specs.First.{next}
 use Rattle.sets_happens.specs.Behind.{visible_visible}
 use Rattle.sets_happens.proofs.add_visible.Given as goal
 
-abbrev pub invariant-loop-k : goal.invariant-loop-k
-invariant-loop-k l = Adding VISIBLE_VISIBLE l.fn.k.visible (λ v j. ltb j l.n and visible_visible (table_in l.t l.n) l.c v j) l.initial.w l.v-iterator.left l.w × Within VISIBLE_VISIBLE HAPPENS_END l.initial.w l.w
-
-abbrev pub decreases-loop-k : goal.decreases-loop-k
-decreases-loop-k l = ROWS - next l.v-iterator.left
+abbrev pub invariant-loop-v : goal.invariant-loop-v
+invariant-loop-v l = Adding VISIBLE_VISIBLE l.fn.k.visible (λ v j. ltb j l.n and visible_visible (table_in l.t l.n) l.c v j) l.initial.w l.v-iterator.left l.w × Within VISIBLE_VISIBLE HAPPENS_END l.initial.w l.w

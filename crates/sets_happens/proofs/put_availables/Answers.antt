@@ -8,15 +8,15 @@ use Rattle.sets_happens.specs.Program.{available_set, available_rows_order, avai
 use native.Mathlib.Omega.{arith}
 use Rattle.sets_happens.proofs.put_availables.Goals as goal
 
-pub rows-left-requires : goal.rows-left-requires
-rows-left-requires c = let a = c.requires.0.opened.space in omega arith
+pub rows-a-items-requires : goal.rows-a-items-requires
+rows-a-items-requires c = let a = c.requires.0.opened.space in omega arith
 
 pub loop-a-init : goal.loop-a-init
 loop-a-init c = (add_begin _ _ _ _, add_begin _ _ _ _, add_begin _ _ _ _, within_refl _ _ _)
 
 pub put_available-requires : goal.put_available-requires
 put_available-requires c =
-    let m = member_in _ (available_set c.requires.0.opened (c.into_iter-a-iterator.ensures.into_iter_gives ∙ c.rows.ensures)) (walk_in c.loop-a.invariant.0.walk c.in-Some.ensures.steps.0) in
+    let m = member_in _ (available_set c.requires.0.opened (c.into_iter-a-iterator.ensures.into_iter_gives ∙ c.rows-a-items.ensures)) (walk_in c.loop-a.invariant.0.walk c.in-Some.ensures.steps.0) in
     (m.0, given_kept c.loop-a.invariant.3 c.requires.0)
 
 pub loop-a-preserved : goal.loop-a-preserved
@@ -35,7 +35,7 @@ returns c =
     let inv = c.loop-a.invariant in
     let o = c.requires.0.opened.rows in
     let few = given_few c.requires.0 in
-    let set = available_set c.requires.0.opened (c.into_iter-a-iterator.ensures.into_iter_gives ∙ c.rows.ensures) in
+    let set = available_set c.requires.0.opened (c.into_iter-a-iterator.ensures.into_iter_gives ∙ c.rows-a-items.ensures) in
     record {
       rows = made_grid _ _ few set (λ i j l m. available_rows_order _ o i j l m) _ c.in-None.ensures.steps.0 inv.0 c.requires.1.rows;
       visibles = made_grid _ _ few set (λ i j l m. available_visibles_order _ o i j l m) _ c.in-None.ensures.steps.0 inv.1 c.requires.1.visibles;

@@ -12,24 +12,20 @@ use Rattle.sets_happens.proofs.put_visibles.Goals as goal
 pub rows-visible-requires : goal.rows-visible-requires
 rows-visible-requires c = let a = c.requires.0.opened.space in omega arith
 
-pub loop-visible-init : goal.loop-visible-init
-loop-visible-init c = (add_begin _ _ _ _, within_refl _ _ _)
+pub loop-v-init : goal.loop-v-init
+loop-v-init c = (add_begin _ _ _ _, within_refl _ _ _)
 
 pub after-requires : goal.after-requires
 after-requires c =
-    ((member_in _ (visible_set c.requires.0.opened c.rows-visible.ensures) (walk_in c.loop-visible.invariant.0.walk c.in-Some.ensures.steps.0)).0, c.requires.0.opened)
+    ((member_in _ (visible_set c.requires.0.opened c.rows-visible.ensures) (walk_in c.loop-v.invariant.0.walk c.in-Some.ensures.steps.0)).0, c.requires.0.opened)
 
 pub put-requires : goal.put-requires
 put-requires c =
-    let a = c.requires.0.room in let b = c.in-Some.ensures.steps.0.bound in let d = c.loop-visible.invariant.1.len in omega arith
+    let a = c.requires.0.room in let b = c.in-Some.ensures.steps.0.bound in let d = c.loop-v.invariant.1.len in omega arith
 
-pub loop-visible-smaller : goal.loop-visible-smaller
-loop-visible-smaller c =
-    walk_less c.in-Some.ensures.steps.0 c.in-Some.ensures.steps.1
-
-pub loop-visible-preserved : goal.loop-visible-preserved
-loop-visible-preserved c =
-    let inv = c.loop-visible.invariant in
+pub loop-v-preserved : goal.loop-v-preserved
+loop-v-preserved c =
+    let inv = c.loop-v.invariant in
     let low = c.in-Some.ensures.steps.0 in (
       add_turn _ _ _ _ inv.0 low c.in-Some.ensures.steps.1
           (puts_adds (λ j. row_before _ _ _ _ inv.0 low j ∙ c.requires.1.is _ j low.bound)
@@ -38,12 +34,12 @@ loop-visible-preserved c =
     )
 
 pub shape_of-w : goal.shape_of-w
-shape_of-w c = c.loop-visible.invariant.1.len
+shape_of-w c = c.loop-v.invariant.1.len
 
 pub returns : goal.returns
 returns c =
     let o = c.requires.0.opened.rows in
     record {
-      grid = made_grid _ _ (given_few c.requires.0) (visible_set c.requires.0.opened c.rows-visible.ensures) (λ i j l m. visibles_order _ o i j l m) _ (sym c.has_any.ensures ∙ c.loop-visible-test.false) c.loop-visible.invariant.0 c.requires.1;
-      frame = c.loop-visible.invariant.1;
+      grid = made_grid _ _ (given_few c.requires.0) (visible_set c.requires.0.opened c.rows-visible.ensures) (λ i j l m. visibles_order _ o i j l m) _ c.in-None.ensures.steps.0 c.loop-v.invariant.0 c.requires.1;
+      frame = c.loop-v.invariant.1;
     }

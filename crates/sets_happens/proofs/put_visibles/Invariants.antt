@@ -10,8 +10,5 @@ use Rattle.sets_of_rows.specs.First.{next}
 use Rattle.sets_happens.specs.Program.{visible_to}
 use Rattle.sets_happens.proofs.put_visibles.Given as goal
 
-abbrev pub invariant-loop-visible : goal.invariant-loop-visible
-invariant-loop-visible l = Adding VISIBLE_VISIBLE l.initial.v-iterator.left (λ v j. ltb j l.n and visible_to (table_in l.t l.n) v j) l.initial.w l.v-iterator.left l.w × Within VISIBLE_VISIBLE HAPPENS_END l.initial.w l.w
-
-abbrev pub decreases-loop-visible : goal.decreases-loop-visible
-decreases-loop-visible l = ROWS - next l.v-iterator.left
+abbrev pub invariant-loop-v : goal.invariant-loop-v
+invariant-loop-v l = Adding VISIBLE_VISIBLE l.initial.v-iterator.left (λ v j. ltb j l.n and visible_to (table_in l.t l.n) v j) l.initial.w l.v-iterator.left l.w × Within VISIBLE_VISIBLE HAPPENS_END l.initial.w l.w

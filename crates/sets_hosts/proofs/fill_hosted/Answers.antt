@@ -18,8 +18,8 @@ pub clear-requires : goal.clear-requires
 clear-requires c =
     let a = c.requires.0.room in let b = c.fill_met.ensures.frame.len in omega arith
 
-pub rows-left-requires : goal.rows-left-requires
-rows-left-requires c =
+pub rows-x-items-requires : goal.rows-x-items-requires
+rows-x-items-requires c =
     let a = c.requires.0.opened.space in omega arith
 
 pub loop-x-init : goal.loop-x-init
@@ -44,7 +44,7 @@ pub loop-x-preserved : goal.loop-x-preserved
 loop-x-preserved c =
     let pre = c.requires in
     let inv = c.loop-x.invariant in
-    let m = member_in _ (rows_at (c.into_iter-x-iterator.ensures.into_iter_gives ∙ c.rows.ensures) (says_rows pre.0.opened.known.tested.accesses.access)) (walk_in inv.1.walk c.in-Some.ensures.steps.0) in
+    let m = member_in _ (rows_at (c.into_iter-x-iterator.ensures.into_iter_gives ∙ c.rows-x-items.ensures) (says_rows pre.0.opened.known.tested.accesses.access)) (walk_in inv.1.walk c.in-Some.ensures.steps.0) in
     let h = hosting_at pre.0 pre.1 pre.2 c.fill_met.ensures c.clear.ensures inv.1.frame in
     (c.put.ensures.frame.len ∙ inv.0, fill_turn _ _ _ _ inv.1 c.in-Some.ensures.steps.0 c.in-Some.ensures.steps.1 (c.hosted_row-to.ensures _ _ h m.0 m.1).is c.put.ensures)
 
@@ -56,5 +56,5 @@ pub returns : goal.returns
 returns c =
     let o = c.requires.0.opened in
     made_after c.fill_met.ensures.frame
-    (filled_made _ (few o) (rows_at (c.into_iter-x-iterator.ensures.into_iter_gives ∙ c.rows.ensures) (says_rows o.known.tested.accesses.access)) (λ i j l m e. hosted_only _ i j e)
+    (filled_made _ (few o) (rows_at (c.into_iter-x-iterator.ensures.into_iter_gives ∙ c.rows-x-items.ensures) (says_rows o.known.tested.accesses.access)) (λ i j l m e. hosted_only _ i j e)
     (fill_end _ _ _ _ c.clear.ensures c.in-None.ensures.steps.0 c.loop-x.invariant.1))

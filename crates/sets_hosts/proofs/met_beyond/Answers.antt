@@ -22,10 +22,10 @@ pub loop-d-preserved : goal.loop-d-preserved
 loop-d-preserved c =
     λ t n g l.
     gather_turn _ _ (beyond_off t n _ _) (c.loop-d.invariant t n g l) c.in-Some.ensures.steps.0 c.in-Some.ensures.steps.1
-    (beyond_on t n _ _ _ _ _ _ (carriers g c.args.host _ l c.of_kind-carrying.ensures c.get.ensures (started c.into_iter-d-iterator.ensures.into_iter_gives c.bitand.ensures)) (c.met_in.ensures t n g) c.bitor_assign.ensures.after)
+    (beyond_on t n _ _ _ _ _ _ (carriers g c.args.host _ l c.of_kind-carrying.ensures c.get.ensures (started c.into_iter-d-iterator.ensures.into_iter_gives c.bitand-d-items.ensures)) (c.met_in.ensures t n g) c.bitor_assign.ensures.after)
 
 pub returns : goal.returns
 returns c =
     λ t n g l.
-    beyond_rows g _ _ _ _ (carriers g c.args.host _ l c.of_kind-carrying.ensures c.get.ensures (started c.into_iter-d-iterator.ensures.into_iter_gives c.bitand.ensures))
+    beyond_rows g _ _ _ _ (carriers g c.args.host _ l c.of_kind-carrying.ensures c.get.ensures (started c.into_iter-d-iterator.ensures.into_iter_gives c.bitand-d-items.ensures))
     (gather_end _ _ (beyond_off t n _ _) _ _ c.in-None.ensures.steps.0 (c.loop-d.invariant t n g l).1)

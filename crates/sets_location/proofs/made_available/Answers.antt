@@ -36,8 +36,8 @@ unfolding decode
 get-by-requires c =
     omega (arith, c.requires.2.room, agent_code c.requires.1.given.opened c.requires.0.low c.agent.ensures, class_code c.requires.1.given.opened c.requires.0.low c.requires.0.is c.class.ensures)
 
-pub plain_available-left-requires : goal.plain_available-left-requires
-plain_available-left-requires c =
+pub plain_available-a-items-requires : goal.plain_available-a-items-requires
+plain_available-a-items-requires c =
     (c.requires.0, c.requires.1)
 
 pub loop-a-init : goal.loop-a-init
@@ -75,4 +75,4 @@ loop-a-preserved c =
 pub returns : goal.returns
 unfolding decode
 returns c =
-    grasp_end c.requires.1.given.opened _ c.requires.0.low c.plain_available-left.ensures _ _ c.requires.1.locating c.requires.2 c.requires.0.is c.agent.ensures c.class.ensures c.get-to.ensures c.get-by.ensures c.none-parts.ensures (grasp_all _ _ _ _ _ _ _ _ _ _ _ c.in-None.ensures.steps.0 c.loop-a.invariant.1)
+    grasp_end c.requires.1.given.opened _ c.requires.0.low c.plain_available-a-items.ensures _ _ c.requires.1.locating c.requires.2 c.requires.0.is c.agent.ensures c.class.ensures c.get-to.ensures c.get-by.ensures c.none-parts.ensures (grasp_all _ _ _ _ _ _ _ _ _ _ _ c.in-None.ensures.steps.0 c.loop-a.invariant.1)

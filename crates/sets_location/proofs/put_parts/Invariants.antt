@@ -7,8 +7,5 @@ use Rattle.sets_location.specs.Adds.{AddsRow, parts_of}
 use Rattle.sets_location.specs.Put.{cut}
 use Rattle.sets_location.proofs.put_parts.Given as goal
 
-abbrev pub invariant-loop-g : goal.invariant-loop-g
-invariant-loop-g l = Walk l.fn.to l.y-iterator.left × AddsRow l.n l.x (cut (parts_of (table_in l.t l.n) l.x l.fn.to) (next l.y-iterator.left)) l.initial.w l.w
-
-abbrev pub decreases-loop-g : goal.decreases-loop-g
-decreases-loop-g l = ROWS - next l.y-iterator.left
+abbrev pub invariant-loop-y : goal.invariant-loop-y
+invariant-loop-y l = Walk l.fn.to l.y-iterator.left × AddsRow l.n l.x (cut (parts_of (table_in l.t l.n) l.x l.fn.to) (next l.y-iterator.left)) l.initial.w l.w

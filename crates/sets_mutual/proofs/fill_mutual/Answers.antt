@@ -11,8 +11,8 @@ use Rattle.sets_mutual.specs.Mutual.{mutual_only}
 use borrow.Author.Rules.{rules}
 use Rattle.sets_mutual.proofs.fill_mutual.Goals as goal
 
-pub rows-left-requires : goal.rows-left-requires
-rows-left-requires c =
+pub rows-i-items-requires : goal.rows-i-items-requires
+rows-i-items-requires c =
     let a = c.requires.opened.space in omega arith
 
 pub loop-i-init : goal.loop-i-init
@@ -22,7 +22,7 @@ pub mutual_row-x-requires : goal.mutual_row-x-requires
 unfolding decode
 mutual_row-x-requires c =
     let o = c.requires.opened in
-    let m = member_in _ (rows_at (c.into_iter-i-iterator.ensures.into_iter_gives ∙ c.rows.ensures) (says_rows o.known.tested.kinds.atomic)) (walk_in c.loop-i.invariant.1.walk c.in-Some.ensures.steps.0) in
+    let m = member_in _ (rows_at (c.into_iter-i-iterator.ensures.into_iter_gives ∙ c.rows-i-items.ensures) (says_rows o.known.tested.kinds.atomic)) (walk_in c.loop-i.invariant.1.walk c.in-Some.ensures.steps.0) in
     (m.0, m.1, o)
 
 pub loop-i-preserved : goal.loop-i-preserved
@@ -34,5 +34,5 @@ loop-i-preserved c =
 pub returns : goal.returns
 returns c =
     let o = c.requires.opened in
-    filled_made _ (few o) (rows_at (c.into_iter-i-iterator.ensures.into_iter_gives ∙ c.rows.ensures) (says_rows o.known.tested.kinds.atomic)) (λ i j l m e. mutual_only _ i j e)
+    filled_made _ (few o) (rows_at (c.into_iter-i-iterator.ensures.into_iter_gives ∙ c.rows-i-items.ensures) (says_rows o.known.tested.kinds.atomic)) (λ i j l m e. mutual_only _ i j e)
     (fill_end _ _ _ _ c.clear.ensures c.in-None.ensures.steps.0 c.loop-i.invariant.1)

@@ -14,34 +14,30 @@ use Rattle.sets_overlap.proofs.fill_overlaps.Goals as goal
 pub meet-requires : goal.meet-requires
 meet-requires c = (c.requires.opened, refl)
 
-pub rows-left-requires : goal.rows-left-requires
-rows-left-requires c =
+pub rows-i-items-requires : goal.rows-i-items-requires
+rows-i-items-requires c =
     let a = c.requires.opened.space in omega arith
 
-pub loop-near-init : goal.loop-near-init
-loop-near-init c =
+pub loop-i-init : goal.loop-i-init
+loop-i-init c =
     (refl, fill_begin _ _ _ _ (search rules) c.clear.ensures, c.meet.ensures)
 
 pub overlap_row-x-requires : goal.overlap_row-x-requires
 unfolding decode
 overlap_row-x-requires c =
     let o = c.requires.opened in
-    let inv = c.loop-near.invariant in
-    let m = member_in _ (rows_at (c.into_iter-i-iterator.ensures.into_iter_gives ∙ c.rows.ensures) (says_rows o.known.tested.accesses.access)) (walk_in inv.1.walk c.in-Some.ensures.steps.0) in
+    let inv = c.loop-i.invariant in
+    let m = member_in _ (rows_at (c.into_iter-i-iterator.ensures.into_iter_gives ∙ c.rows-i-items.ensures) (says_rows o.known.tested.accesses.access)) (walk_in inv.1.walk c.in-Some.ensures.steps.0) in
     (m.0, m.1, record { opened = o; near = inv.2 })
 
-pub loop-near-smaller : goal.loop-near-smaller
-loop-near-smaller c =
-    walk_less c.in-Some.ensures.steps.0 c.in-Some.ensures.steps.1
-
-pub loop-near-preserved : goal.loop-near-preserved
-loop-near-preserved c =
-    let inv = c.loop-near.invariant in
+pub loop-i-preserved : goal.loop-i-preserved
+loop-i-preserved c =
+    let inv = c.loop-i.invariant in
     let put = c.put.ensures in
     (put.frame.len ∙ inv.0, fill_turn _ _ _ _ inv.1 c.in-Some.ensures.steps.0 c.in-Some.ensures.steps.1 c.overlap_row-x.ensures.is put, inv.2)
 
 pub returns : goal.returns
 returns c =
     let o = c.requires.opened in
-    filled_made _ (few o) (rows_at (c.into_iter-i-iterator.ensures.into_iter_gives ∙ c.rows.ensures) (says_rows o.known.tested.accesses.access)) (λ i j l m e. over_only o i j l m e)
-    (fill_end _ _ _ _ c.clear.ensures (sym c.has_any.ensures ∙ c.loop-near-test.false) c.loop-near.invariant.1)
+    filled_made _ (few o) (rows_at (c.into_iter-i-iterator.ensures.into_iter_gives ∙ c.rows-i-items.ensures) (says_rows o.known.tested.accesses.access)) (λ i j l m e. over_only o i j l m e)
+    (fill_end _ _ _ _ c.clear.ensures c.in-None.ensures.steps.0 c.loop-i.invariant.1)

@@ -12,8 +12,5 @@ use Rattle.work_area.specs.State.{overlaps}
 use Rattle.sets_overlap.specs.Overlap.{Near}
 use Rattle.sets_overlap.proofs.fill_overlaps.Given as goal
 
-abbrev pub invariant-loop-near : goal.invariant-loop-near
-invariant-loop-near l = (length l.w ≡ length l.initial.w) × Filling OVERLAP l.initial.i-iterator.left (λ i j. ltb j l.n and overlaps (table_in l.t l.n) i j) l.initial.w l.i-iterator.left l.w × Near (table_in l.t l.n) l.n l.near
-
-abbrev pub decreases-loop-near : goal.decreases-loop-near
-decreases-loop-near l = ROWS - next l.i-iterator.left
+abbrev pub invariant-loop-i : goal.invariant-loop-i
+invariant-loop-i l = (length l.w ≡ length l.initial.w) × Filling OVERLAP l.initial.i-iterator.left (λ i j. ltb j l.n and overlaps (table_in l.t l.n) i j) l.initial.w l.i-iterator.left l.w × Near (table_in l.t l.n) l.n l.near

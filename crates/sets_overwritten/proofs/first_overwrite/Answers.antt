@@ -10,15 +10,15 @@ use Rattle.sets_overwritten.specs.Over.{reader_off, reader_source, reader_none, 
 use native.Mathlib.Omega.{arith}
 use Rattle.sets_overwritten.proofs.first_overwrite.Goals as goal
 
-pub rows-left-requires : goal.rows-left-requires
-rows-left-requires c = let a = c.requires.1.given.opened.space in omega arith
+pub rows-y-items-requires : goal.rows-y-items-requires
+rows-y-items-requires c = let a = c.requires.1.given.opened.space in omega arith
 
 pub loop-y-init : goal.loop-y-init
-loop-y-init c = search_begin _ _ (reader_off _ (source_in c.args.src.now) _ (rows_at (c.into_iter-y-iterator.ensures.into_iter_gives ∙ c.rows.ensures) (says_rows c.requires.1.given.opened.known.tested.accesses.reads)))
+loop-y-init c = search_begin _ _ (reader_off _ (source_in c.args.src.now) _ (rows_at (c.into_iter-y-iterator.ensures.into_iter_gives ∙ c.rows-y-items.ensures) (says_rows c.requires.1.given.opened.known.tested.accesses.reads)))
 
 pub bounds-src-y : goal.bounds-src-y
 bounds-src-y c =
-    let m = member_in _ (rows_at (c.into_iter-y-iterator.ensures.into_iter_gives ∙ c.rows.ensures) (says_rows c.requires.1.given.opened.known.tested.accesses.reads)) (walk_in c.loop-y.invariant.0 c.in-Some.ensures.steps.0) in let l = m.0 in let e = c.requires.0 in omega (arith, l, e)
+    let m = member_in _ (rows_at (c.into_iter-y-iterator.ensures.into_iter_gives ∙ c.rows-y-items.ensures) (says_rows c.requires.1.given.opened.known.tested.accesses.reads)) (walk_in c.loop-y.invariant.0 c.in-Some.ensures.steps.0) in let l = m.0 in let e = c.requires.0 in omega (arith, l, e)
 
 pub overflow_cast-source : goal.overflow_cast-source
 overflow_cast-source c = omega (arith, c.type_inv.src c.in-Some.y)
@@ -26,7 +26,7 @@ overflow_cast-source c = omega (arith, c.type_inv.src c.in-Some.y)
 pub overwritten_by-o-requires : goal.overwritten_by-o-requires
 unfolding decode
 overwritten_by-o-requires c =
-    let m = member_in _ (rows_at (c.into_iter-y-iterator.ensures.into_iter_gives ∙ c.rows.ensures) (says_rows c.requires.1.given.opened.known.tested.accesses.reads)) (walk_in c.loop-y.invariant.0 c.in-Some.ensures.steps.0) in (c.if-source-n.true, record { low = m.0; is = m.1 }, c.requires.1)
+    let m = member_in _ (rows_at (c.into_iter-y-iterator.ensures.into_iter_gives ∙ c.rows-y-items.ensures) (says_rows c.requires.1.given.opened.known.tested.accesses.reads)) (walk_in c.loop-y.invariant.0 c.in-Some.ensures.steps.0) in (c.if-source-n.true, record { low = m.0; is = m.1 }, c.requires.1)
 
 pub loop-y-smaller-in-Nothing-1 : goal.loop-y-smaller-in-Nothing-1
 loop-y-smaller-in-Nothing-1 c =
@@ -34,19 +34,19 @@ loop-y-smaller-in-Nothing-1 c =
 
 pub loop-y-preserved-in-Nothing-1 : goal.loop-y-preserved-in-Nothing-1
 loop-y-preserved-in-Nothing-1 c =
-    search_turn _ _ (reader_off _ (source_in c.args.src.now) _ (rows_at (c.into_iter-y-iterator.ensures.into_iter_gives ∙ c.rows.ensures) (says_rows c.requires.1.given.opened.known.tested.accesses.reads))) c.loop-y.invariant c.in-Some.ensures.steps.0 c.in-Some.ensures.steps.1 (reader_none _ (source_in c.args.src.now) _ _ _ c.overwritten_by-o.ensures c.in-Nothing.is)
+    search_turn _ _ (reader_off _ (source_in c.args.src.now) _ (rows_at (c.into_iter-y-iterator.ensures.into_iter_gives ∙ c.rows-y-items.ensures) (says_rows c.requires.1.given.opened.known.tested.accesses.reads))) c.loop-y.invariant c.in-Some.ensures.steps.0 c.in-Some.ensures.steps.1 (reader_none _ (source_in c.args.src.now) _ _ _ c.overwritten_by-o.ensures c.in-Nothing.is)
 
 pub returns-in_default : goal.returns-in_default
 returns-in_default c =
-    let m = member_in _ (rows_at (c.into_iter-y-iterator.ensures.into_iter_gives ∙ c.rows.ensures) (says_rows c.requires.1.given.opened.known.tested.accesses.reads)) (walk_in c.loop-y.invariant.0 c.in-Some.ensures.steps.0) in
+    let m = member_in _ (rows_at (c.into_iter-y-iterator.ensures.into_iter_gives ∙ c.rows-y-items.ensures) (says_rows c.requires.1.given.opened.known.tested.accesses.reads)) (walk_in c.loop-y.invariant.0 c.in-Some.ensures.steps.0) in
     let o = c.overwritten_by-o.ensures in
     let hit = reader_hit _ (source_in c.args.src.now) _ _ _ m.0 m.1 o c.in_default.is in
-    reader_found _ (source_in c.args.src.now) _ c.requires.1.given.opened.fit.sized c.requires.1.given.opened.rows _ _ m.0 (search_found _ _ (reader_off _ (source_in c.args.src.now) _ (rows_at (c.into_iter-y-iterator.ensures.into_iter_gives ∙ c.rows.ensures) (says_rows c.requires.1.given.opened.known.tested.accesses.reads))) c.loop-y.invariant c.in-Some.ensures.steps.0 hit) hit o
+    reader_found _ (source_in c.args.src.now) _ c.requires.1.given.opened.fit.sized c.requires.1.given.opened.rows _ _ m.0 (search_found _ _ (reader_off _ (source_in c.args.src.now) _ (rows_at (c.into_iter-y-iterator.ensures.into_iter_gives ∙ c.rows-y-items.ensures) (says_rows c.requires.1.given.opened.known.tested.accesses.reads))) c.loop-y.invariant c.in-Some.ensures.steps.0 hit) hit o
 
 pub loop-y-preserved : goal.loop-y-preserved
 loop-y-preserved c =
-    search_turn _ _ (reader_off _ (source_in c.args.src.now) _ (rows_at (c.into_iter-y-iterator.ensures.into_iter_gives ∙ c.rows.ensures) (says_rows c.requires.1.given.opened.known.tested.accesses.reads))) c.loop-y.invariant c.in-Some.ensures.steps.0 c.in-Some.ensures.steps.1 (reader_source _ (source_in c.args.src.now) _ c.requires.1.given.opened.rows _ c.if-source-n.false)
+    search_turn _ _ (reader_off _ (source_in c.args.src.now) _ (rows_at (c.into_iter-y-iterator.ensures.into_iter_gives ∙ c.rows-y-items.ensures) (says_rows c.requires.1.given.opened.known.tested.accesses.reads))) c.loop-y.invariant c.in-Some.ensures.steps.0 c.in-Some.ensures.steps.1 (reader_source _ (source_in c.args.src.now) _ c.requires.1.given.opened.rows _ c.if-source-n.false)
 
 pub returns : goal.returns
 returns c =
-    reader_nothing _ (source_in c.args.src.now) _ c.requires.1.given.opened.fit.sized c.requires.1.given.opened.rows (few c.requires.1.given.opened) (search_end _ _ (reader_off _ (source_in c.args.src.now) _ (rows_at (c.into_iter-y-iterator.ensures.into_iter_gives ∙ c.rows.ensures) (says_rows c.requires.1.given.opened.known.tested.accesses.reads))) _ c.in-None.ensures.steps.0 c.loop-y.invariant.1)
+    reader_nothing _ (source_in c.args.src.now) _ c.requires.1.given.opened.fit.sized c.requires.1.given.opened.rows (few c.requires.1.given.opened) (search_end _ _ (reader_off _ (source_in c.args.src.now) _ (rows_at (c.into_iter-y-iterator.ensures.into_iter_gives ∙ c.rows-y-items.ensures) (says_rows c.requires.1.given.opened.known.tested.accesses.reads))) _ c.in-None.ensures.steps.0 c.loop-y.invariant.1)

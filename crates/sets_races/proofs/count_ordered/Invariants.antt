@@ -8,8 +8,5 @@ use Rattle.sets_of_rows.specs.Walk.{Walk}
 use Rattle.sets_races.specs.Sums.{above, sum_below, one_of}
 use Rattle.sets_races.proofs.count_ordered.Given as goal
 
-abbrev pub invariant-loop-left : goal.invariant-loop-left
-invariant-loop-left l = Walk l.initial.left l.left × (l.count ≡ sum_below (next l.left) (one_of l.n (above (conflict_ordered (table_in l.t l.n)) l.i)))
-
-abbrev pub decreases-loop-left : goal.decreases-loop-left
-decreases-loop-left l = ROWS - next l.left
+abbrev pub invariant-loop-j : goal.invariant-loop-j
+invariant-loop-j l = Walk l.initial.left l.left × (l.count ≡ sum_below (next l.left) (one_of l.n (above (conflict_ordered (table_in l.t l.n)) l.i)))

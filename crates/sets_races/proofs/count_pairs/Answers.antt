@@ -15,12 +15,12 @@ use Rattle.sets_races.specs.Search.{conflict_off, mutual_off, ordered_off, row_c
 use native.Mathlib.Omega.{arith}
 use Rattle.sets_races.proofs.count_pairs.Goals as goal
 
-pub rows-left-requires : goal.rows-left-requires
-rows-left-requires c = let a = c.requires.given.opened.space in omega arith
+pub rows-i-items-requires : goal.rows-i-items-requires
+rows-i-items-requires c = let a = c.requires.given.opened.space in omega arith
 
 pub loop-i-init : goal.loop-i-init
 loop-i-init c =
-    let acc = rows_at (c.into_iter-i-iterator.ensures.into_iter_gives ∙ c.rows.ensures) (says_rows c.requires.given.opened.known.tested.accesses.access) in
+    let acc = rows_at (c.into_iter-i-iterator.ensures.into_iter_gives ∙ c.rows-i-items.ensures) (says_rows c.requires.given.opened.known.tested.accesses.access) in
     let x = tally_begin _ _ (conflict_off _ _ acc) in
     let y = tally_begin _ _ (mutual_off _ _ acc) in
     let z = tally_begin _ _ (ordered_off _ _ acc) in
@@ -29,7 +29,7 @@ loop-i-init c =
 pub conflicting-others-requires : goal.conflicting-others-requires
 unfolding decode
 conflicting-others-requires c =
-    let acc = rows_at (c.into_iter-i-iterator.ensures.into_iter_gives ∙ c.rows.ensures) (says_rows c.requires.given.opened.known.tested.accesses.access) in
+    let acc = rows_at (c.into_iter-i-iterator.ensures.into_iter_gives ∙ c.rows-i-items.ensures) (says_rows c.requires.given.opened.known.tested.accesses.access) in
     let m = member_in _ acc (walk_in c.loop-i.invariant.0 c.in-Some.ensures.steps.0) in (record { low = m.0; is = m.1 }, c.requires)
 
 pub get-mutual-requires : goal.get-mutual-requires
@@ -53,7 +53,7 @@ overflow_add-c-in-loop-i c =
 pub count_ordered-requires : goal.count_ordered-requires
 unfolding decode
 count_ordered-requires c =
-    let acc = rows_at (c.into_iter-i-iterator.ensures.into_iter_gives ∙ c.rows.ensures) (says_rows c.requires.given.opened.known.tested.accesses.access) in
+    let acc = rows_at (c.into_iter-i-iterator.ensures.into_iter_gives ∙ c.rows-i-items.ensures) (says_rows c.requires.given.opened.known.tested.accesses.access) in
     let m = member_in _ acc (walk_in c.loop-i.invariant.0 c.in-Some.ensures.steps.0) in
     (m.0, open_rows c.requires.given c.requires.judging m.0 m.1 c.conflicting-others.ensures c.get-mutual.ensures c.sub.ensures, judged c.requires)
 
@@ -63,7 +63,7 @@ overflow_add-c-in-loop-i-2 c =
 
 pub loop-i-preserved : goal.loop-i-preserved
 loop-i-preserved c =
-    let acc = rows_at (c.into_iter-i-iterator.ensures.into_iter_gives ∙ c.rows.ensures) (says_rows c.requires.given.opened.known.tested.accesses.access) in
+    let acc = rows_at (c.into_iter-i-iterator.ensures.into_iter_gives ∙ c.rows-i-items.ensures) (says_rows c.requires.given.opened.known.tested.accesses.access) in
     let m = member_in _ acc (walk_in c.loop-i.invariant.0 c.in-Some.ensures.steps.0) in
     let few = given_few c.requires.given in
     let inv = c.loop-i.invariant in
@@ -77,7 +77,7 @@ loop-i-preserved c =
 
 pub returns : goal.returns
 returns c =
-    let acc = rows_at (c.into_iter-i-iterator.ensures.into_iter_gives ∙ c.rows.ensures) (says_rows c.requires.given.opened.known.tested.accesses.access) in
+    let acc = rows_at (c.into_iter-i-iterator.ensures.into_iter_gives ∙ c.rows-i-items.ensures) (says_rows c.requires.given.opened.known.tested.accesses.access) in
     let done = c.in-None.ensures.steps.0 in
     let inv = c.loop-i.invariant in
     all_counted _ _ c.requires.given.opened.rows (given_few c.requires.given) (tally_end _ _ (conflict_off _ _ acc) _ _ done inv.1) (tally_end _ _ (mutual_off _ _ acc) _ _ done inv.2) (tally_end _ _ (ordered_off _ _ acc) _ _ done inv.3)

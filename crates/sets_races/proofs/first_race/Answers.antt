@@ -17,14 +17,14 @@ rows-left-requires c = let a = c.requires.given.opened.space in omega arith
 
 pub pairs-init : goal.pairs-init
 pairs-init c =
-    let acc = rows_at (c.into_iter-x-iterator.ensures.into_iter_gives ∙ c.rows.ensures) (says_rows c.requires.given.opened.known.tested.accesses.access) in
+    let acc = rows_at (c.into_iter-x-iterator.ensures.into_iter_gives ∙ c.rows-x-items.ensures) (says_rows c.requires.given.opened.known.tested.accesses.access) in
     let b = search_begin _ _ (has_out _ _ acc) in
     (b.0, b.1, refl)
 
 pub open_after-others-requires : goal.open_after-others-requires
 unfolding decode
 open_after-others-requires c =
-    let acc = rows_at (c.into_iter-x-iterator.ensures.into_iter_gives ∙ c.rows.ensures) (says_rows c.requires.given.opened.known.tested.accesses.access) in
+    let acc = rows_at (c.into_iter-x-iterator.ensures.into_iter_gives ∙ c.rows-x-items.ensures) (says_rows c.requires.given.opened.known.tested.accesses.access) in
     let m = member_in _ acc (walk_in c.pairs.invariant.0 c.in-Some.ensures.steps.0) in
     (record { low = m.0; is = m.1 }, c.requires)
 
@@ -38,7 +38,7 @@ pairs-smaller c =
 
 pub pairs-preserved : goal.pairs-preserved
 pairs-preserved c =
-    let acc = rows_at (c.into_iter-x-iterator.ensures.into_iter_gives ∙ c.rows.ensures) (says_rows c.requires.given.opened.known.tested.accesses.access) in
+    let acc = rows_at (c.into_iter-x-iterator.ensures.into_iter_gives ∙ c.rows-x-items.ensures) (says_rows c.requires.given.opened.known.tested.accesses.access) in
     let given = c.requires.given in
     let inv = c.pairs.invariant in
     let none = partner_none _ _ _ given.opened.rows (given_few given)
@@ -49,7 +49,7 @@ pairs-preserved c =
 pub unordered-bytes-requires : goal.unordered-bytes-requires
 unfolding decode
 unordered-bytes-requires c =
-    let acc = rows_at (c.into_iter-x-iterator.ensures.into_iter_gives ∙ c.rows.ensures) (says_rows c.requires.given.opened.known.tested.accesses.access) in
+    let acc = rows_at (c.into_iter-x-iterator.ensures.into_iter_gives ∙ c.rows-x-items.ensures) (says_rows c.requires.given.opened.known.tested.accesses.access) in
     let m = member_in _ acc (walk_in c.pairs.invariant.0 c.in-Some.ensures.steps.0) in
     let o = member_in _ c.open_after-others.ensures (walk_in c.loop-y.invariant.0 c.in-Some.ensures.steps.0) in
     (record { first = m.0; second = o.0 }, open_conflict _ _ _ o.1, judged c.requires)
@@ -106,7 +106,7 @@ overflow_add-answer c =
 pub overflow_cast-answer-in-loop-y-2 : goal.overflow_cast-answer-in-loop-y-2
 unfolding decode
 overflow_cast-answer-in-loop-y-2 c =
-    let acc = rows_at (c.into_iter-x-iterator.ensures.into_iter_gives ∙ c.rows.ensures) (says_rows c.requires.given.opened.known.tested.accesses.access) in
+    let acc = rows_at (c.into_iter-x-iterator.ensures.into_iter_gives ∙ c.rows-x-items.ensures) (says_rows c.requires.given.opened.known.tested.accesses.access) in
     let m = member_in _ acc (walk_in c.pairs.invariant.0 c.in-Some.ensures.steps.0) in
     let l = m.0 in
     let z = c.if-bytes-eq0.false in
@@ -119,14 +119,14 @@ overflow_cast-answer-in-loop-y-2 c =
 
 pub returns-after-pairs : goal.returns-after-pairs
 returns-after-pairs c =
-    let acc = rows_at (c.into_iter-x-iterator.ensures.into_iter_gives ∙ c.rows.ensures) (says_rows c.requires.given.opened.known.tested.accesses.access) in
+    let acc = rows_at (c.into_iter-x-iterator.ensures.into_iter_gives ∙ c.rows-x-items.ensures) (says_rows c.requires.given.opened.known.tested.accesses.access) in
     let given = c.requires.given in
     c.pairs.invariant.2 ∙ row_none _ _ given.opened.rows (given_few given) (search_end _ _ (has_out _ _ acc) _ (sym c.has_any.ensures ∙ c.pairs-test.false) c.pairs.invariant.1)
 
 pub returns-then-is_set : goal.returns-then-is_set
 unfolding decode
 returns-then-is_set c =
-    let acc = rows_at (c.into_iter-x-iterator.ensures.into_iter_gives ∙ c.rows.ensures) (says_rows c.requires.given.opened.known.tested.accesses.access) in
+    let acc = rows_at (c.into_iter-x-iterator.ensures.into_iter_gives ∙ c.rows-x-items.ensures) (says_rows c.requires.given.opened.known.tested.accesses.access) in
     let given = c.requires.given in
     let few = given_few given in
     let m = member_in _ acc (walk_in c.pairs.invariant.0 c.in-Some.ensures.steps.0) in

@@ -23,7 +23,7 @@ unfolding decode
 loop-k-init c =
     let pre = c.requires in
     let o = pre.1.opened in
-    let says = kind_rows o pre.2 _ 4 _ _ _ pre.0.low (omega arith) c.get.ensures c.get-2.ensures (started c.into_iter-k-iterator.ensures.into_iter_gives c.bitand.ensures) in
+    let says = kind_rows o pre.2 _ 4 _ _ _ pre.0.low (omega arith) c.get.ensures c.get-2.ensures (started c.into_iter-k-iterator.ensures.into_iter_gives c.bitand-k-items.ensures) in
     (refl, head_begin _ _ _ o.rows (few o) _ (head_walked _ _ _ _ o.rows says) _)
 
 pub rank-requires : goal.rank-requires
@@ -42,7 +42,7 @@ unfolding decode
 loop-k-preserved c =
     let pre = c.requires in
     let o = pre.1.opened in
-    let says = kind_rows o pre.2 _ 4 _ _ _ pre.0.low (omega arith) c.get.ensures c.get-2.ensures (started c.into_iter-k-iterator.ensures.into_iter_gives c.bitand.ensures) in
+    let says = kind_rows o pre.2 _ 4 _ _ _ pre.0.low (omega arith) c.get.ensures c.get-2.ensures (started c.into_iter-k-iterator.ensures.into_iter_gives c.bitand-k-items.ensures) in
     let inv = c.loop-k.invariant in
     let m = head_member _ _ _ _ o.rows says _ (walk_in inv.1.0 c.in-Some.ensures.steps.0) in
     let k = since_is _ _ _ c.counted-counted.ensures c.rank.ensures c.rank-rank.ensures c.since.ensures.0 in
@@ -60,5 +60,5 @@ unfolding decode
 returns c =
     let pre = c.requires in
     let o = pre.1.opened in
-    let says = kind_rows o pre.2 _ 4 _ _ _ pre.0.low (omega arith) c.get.ensures c.get-2.ensures (started c.into_iter-k-iterator.ensures.into_iter_gives c.bitand.ensures) in
+    let says = kind_rows o pre.2 _ 4 _ _ _ pre.0.low (omega arith) c.get.ensures c.get-2.ensures (started c.into_iter-k-iterator.ensures.into_iter_gives c.bitand-k-items.ensures) in
     head_end _ _ _ o.rows (few o) _ (head_walked _ _ _ _ o.rows says) _ c.in-None.ensures.steps.0 c.loop-k.invariant.1.1

@@ -21,7 +21,7 @@ pub loop-z-init : goal.loop-z-init
 unfolding decode
 loop-z-init c =
     let o = c.requires.1.opened in
-    end_begin _ _ _ (ends_walked _ _ _ _ o.rows (kind_rows o c.requires.2 _ 3 _ _ _ c.requires.0 (omega arith) c.get.ensures c.get-2.ensures (started c.into_iter-z-iterator.ensures.into_iter_gives c.bitand.ensures)))
+    end_begin _ _ _ (ends_walked _ _ _ _ o.rows (kind_rows o c.requires.2 _ 3 _ _ _ c.requires.0 (omega arith) c.get.ensures c.get-2.ensures (started c.into_iter-z-iterator.ensures.into_iter_gives c.bitand-z-items.ensures)))
 
 pub rank-requires : goal.rank-requires
 rank-requires c = c.in-Some.ensures.steps.0.bound
@@ -31,7 +31,7 @@ unfolding decode
 loop-z-preserved c =
     let pre = c.requires in
     let o = pre.1.opened in
-    let says = kind_rows o pre.2 _ 3 _ _ _ pre.0 (omega arith) c.get.ensures c.get-2.ensures (started c.into_iter-z-iterator.ensures.into_iter_gives c.bitand.ensures) in
+    let says = kind_rows o pre.2 _ 3 _ _ _ pre.0 (omega arith) c.get.ensures c.get-2.ensures (started c.into_iter-z-iterator.ensures.into_iter_gives c.bitand-z-items.ensures) in
     let m = ends_member _ _ _ _ o.rows says _ (walk_in c.loop-z.invariant.0 c.in-Some.ensures.steps.0) in
     end_turn _ _ _ (ends_walked _ _ _ _ o.rows says) _ _ c.loop-z.invariant c.in-Some.ensures.steps.0 c.in-Some.ensures.steps.1 m.0 m.1
     (since_is _ _ _ c.counted-counted.ensures c.rank.ensures c.rank-rank.ensures c.since-k.ensures.0) c.since-k.ensures.1 c.lower-end.ensures.0 c.lower-end.ensures.1
@@ -41,4 +41,4 @@ unfolding decode
 returns c =
     let pre = c.requires in
     let o = pre.1.opened in
-    end_done _ _ _ (ends_walked _ _ _ _ o.rows (kind_rows o pre.2 _ 3 _ _ _ pre.0 (omega arith) c.get.ensures c.get-2.ensures (started c.into_iter-z-iterator.ensures.into_iter_gives c.bitand.ensures))) _ o.fit.few c.in-None.ensures.steps.0 c.loop-z.invariant.1
+    end_done _ _ _ (ends_walked _ _ _ _ o.rows (kind_rows o pre.2 _ 3 _ _ _ pre.0 (omega arith) c.get.ensures c.get-2.ensures (started c.into_iter-z-iterator.ensures.into_iter_gives c.bitand-z-items.ensures))) _ o.fit.few c.in-None.ensures.steps.0 c.loop-z.invariant.1

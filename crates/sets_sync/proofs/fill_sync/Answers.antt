@@ -15,8 +15,8 @@ use Rattle.sets_sync.specs.Sync.{sync_only}
 use borrow.Author.Rules.{rules}
 use Rattle.sets_sync.proofs.fill_sync.Goals as goal
 
-pub rows-left-requires : goal.rows-left-requires
-rows-left-requires c =
+pub rows-a-items-requires : goal.rows-a-items-requires
+rows-a-items-requires c =
     let a = c.requires.0.opened.space in omega arith
 
 pub loop-a-init : goal.loop-a-init
@@ -27,7 +27,7 @@ unfolding decode
 sync_row-x-requires c =
     let pre = c.requires in
     let o = pre.0.opened in
-    let m = member_in _ (rows_at (c.into_iter-a-iterator.ensures.into_iter_gives ∙ c.rows.ensures) (says_rows o.known.tested.orders.releases)) (walk_in c.loop-a.invariant.1.walk c.in-Some.ensures.steps.0) in
+    let m = member_in _ (rows_at (c.into_iter-a-iterator.ensures.into_iter_gives ∙ c.rows-a-items.ensures) (says_rows o.known.tested.orders.releases)) (walk_in c.loop-a.invariant.1.walk c.in-Some.ensures.steps.0) in
     let f = within_trans (within_cleared SYNC SYNC_END (omega arith) c.clear.ensures) c.loop-a.invariant.1.frame in
     (record { low = m.0; is = m.1 }, given_kept f pre.0, record { taken = grid_kept (λ h. omega arith) f pre.1.taken; passed = grid_kept (λ h. omega arith) f pre.1.passed })
 
@@ -40,5 +40,5 @@ loop-a-preserved c =
 pub returns : goal.returns
 returns c =
     let o = c.requires.0.opened in
-    filled_made _ (few o) (rows_at (c.into_iter-a-iterator.ensures.into_iter_gives ∙ c.rows.ensures) (says_rows o.known.tested.orders.releases)) (λ i j l m e. sync_only _ i j e)
+    filled_made _ (few o) (rows_at (c.into_iter-a-iterator.ensures.into_iter_gives ∙ c.rows-a-items.ensures) (says_rows o.known.tested.orders.releases)) (λ i j l m e. sync_only _ i j e)
     (fill_end _ _ _ _ c.clear.ensures c.in-None.ensures.steps.0 c.loop-a.invariant.1)

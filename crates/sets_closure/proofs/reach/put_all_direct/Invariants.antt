@@ -8,8 +8,5 @@ use Rattle.sets_of_rows.specs.Walk.{Walk}
 use Rattle.sets_closure.specs.Reaching.{Putting}
 use Rattle.sets_closure.proofs.reach.put_all_direct.Given as goal
 
-abbrev pub invariant-loop-k : goal.invariant-loop-k
-invariant-loop-k l = Within REACH_AT REACH_END l.initial.w l.w × (Walk l.k.nodes l.h-iterator.left × Putting (table_in l.t l.n) l.n l.k l.initial.w (next l.h-iterator.left) l.w)
-
-abbrev pub decreases-loop-k : goal.decreases-loop-k
-decreases-loop-k l = ROWS - next l.h-iterator.left
+abbrev pub invariant-loop-h : goal.invariant-loop-h
+invariant-loop-h l = Within REACH_AT REACH_END l.initial.w l.w × (Walk l.k.nodes l.h-iterator.left × Putting (table_in l.t l.n) l.n l.k l.initial.w (next l.h-iterator.left) l.w)

@@ -6,8 +6,5 @@ use Rattle.sets_of_rows.specs.Walk.{Walk}
 use Rattle.sets_location.specs.Elements.{BitsTo, byte_of}
 use Rattle.sets_location.proofs.part.bytes_of.Given as goal
 
-abbrev pub invariant-loop-left : goal.invariant-loop-left
-invariant-loop-left l = Walk l.initial.left l.left × BitsTo (byte_of (table_in l.t l.n) l.x l.initial.left) l.m (next l.left)
-
-abbrev pub decreases-loop-left : goal.decreases-loop-left
-decreases-loop-left l = ROWS - next l.left
+abbrev pub invariant-loop-y : goal.invariant-loop-y
+invariant-loop-y l = Walk l.initial.left l.left × BitsTo (byte_of (table_in l.t l.n) l.x l.initial.left) l.m (next l.left)

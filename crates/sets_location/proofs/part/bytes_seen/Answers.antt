@@ -31,39 +31,35 @@ pub bytes_of-m-requires : goal.bytes_of-m-requires
 bytes_of-m-requires c =
     (c.requires.0.pair.first.low, wide_among c.requires.1.given.opened _ c.requires.0.pair.first.low c.requires.0.pair.first.is c.requires.2 _ _ c.bitand-2.ensures, c.requires.1.given.opened.fit)
 
-pub loop-wide-init : goal.loop-wide-init
-loop-wide-init c = more_begin _ _ _ (seen_off _ _ _ _ _ _) _ (mask_self c.bytes_of-m.ensures)
+pub loop-a-init : goal.loop-a-init
+loop-a-init c = rw c.into_iter-a-iterator.ensures.into_iter_gives (more_begin _ _ _ (seen_off _ _ _ _ _ _) _ (mask_self c.bytes_of-m.ensures))
 
 pub shared-own-requires : goal.shared-own-requires
 shared-own-requires c =
-    (c.requires.0.pair.first.low, (member_in _ c.requires.2.parts (walk_in c.loop-wide.invariant.0 c.in-Some.ensures.steps.0)).0, c.requires.1.given.opened.fit)
+    (c.requires.0.pair.first.low, (member_in _ c.requires.2.parts (walk_in c.loop-a.invariant.0 c.in-Some.ensures.steps.0)).0, c.requires.1.given.opened.fit)
 
 pub get-visible-requires : goal.get-visible-requires
 get-visible-requires c =
     let r = c.requires.1.given.room in let l = c.in-Some.ensures.steps.0.bound in omega (arith, r, l)
 
-pub loop-wide-smaller-then-has_any : goal.loop-wide-smaller-then-has_any
-loop-wide-smaller-then-has_any c =
+pub loop-a-smaller-then-has_any : goal.loop-a-smaller-then-has_any
+loop-a-smaller-then-has_any c =
     walk_less c.in-Some.ensures.steps.0 c.in-Some.ensures.steps.1
 
-pub loop-wide-preserved-then-has_any : goal.loop-wide-preserved-then-has_any
-loop-wide-preserved-then-has_any c =
-    more_turn _ _ _ (seen_off _ _ _ _ _ _) c.loop-wide.invariant c.in-Some.ensures.steps.0 c.in-Some.ensures.steps.1 (seen_wide _ _ _ _ _ _ _ c.get-visible.ensures _ _ c.bitand-in-loop-wide.ensures c.has_any-in-loop-wide.ensures c.if-has_any.true c.shared-own.ensures)
+pub loop-a-preserved-then-has_any : goal.loop-a-preserved-then-has_any
+loop-a-preserved-then-has_any c =
+    more_turn _ _ _ (seen_off _ _ _ _ _ _) c.loop-a.invariant c.in-Some.ensures.steps.0 c.in-Some.ensures.steps.1 (seen_wide _ _ _ _ _ _ _ c.get-visible.ensures _ _ c.bitand-in-loop-a.ensures c.has_any-in-loop-a.ensures c.if-has_any.true c.shared-own.ensures)
 
 pub bytes_of-requires : goal.bytes_of-requires
 unfolding decode
 bytes_of-requires c =
     (c.requires.0.pair.first.low, plain_among _ _ (upto_sets c.requires.1.given.opened _ _ c.requires.0.pair.first.low c.requires.0.pair.first.is _ _ _ _ _ _ _ _ c.of_agent.ensures c.above.ensures c.sub-upto.ensures c.wide_visible.ensures c.bitand.ensures c.without-wide.ensures c.plain_visible.ensures c.bitand-plain.ensures) c.bitand-else-has_any.ensures, c.requires.1.given.opened.fit)
 
-pub loop-wide-smaller : goal.loop-wide-smaller
-loop-wide-smaller c =
-    walk_less c.in-Some.ensures.steps.0 c.in-Some.ensures.steps.1
-
-pub loop-wide-preserved : goal.loop-wide-preserved
-loop-wide-preserved c =
-    more_turn _ _ _ (seen_off _ _ _ _ _ _) c.loop-wide.invariant c.in-Some.ensures.steps.0 c.in-Some.ensures.steps.1 (seen_part _ _ _ _ _ _ _ c.get-visible.ensures _ _ _ c.bitand-in-loop-wide.ensures c.has_any-in-loop-wide.ensures c.if-has_any.false c.bitand-else-has_any.ensures c.shared-own.ensures c.bytes_of.ensures)
+pub loop-a-preserved : goal.loop-a-preserved
+loop-a-preserved c =
+    more_turn _ _ _ (seen_off _ _ _ _ _ _) c.loop-a.invariant c.in-Some.ensures.steps.0 c.in-Some.ensures.steps.1 (seen_part _ _ _ _ _ _ _ c.get-visible.ensures _ _ _ c.bitand-in-loop-a.ensures c.has_any-in-loop-a.ensures c.if-has_any.false c.bitand-else-has_any.ensures c.shared-own.ensures c.bytes_of.ensures)
 
 pub returns : goal.returns
 unfolding decode
 returns c =
-    seen_met c.requires.1.given.opened c.requires.1.locating _ _ c.requires.0.pair.first.low c.requires.0.pair.second.low c.requires.0.pair c.requires.2 c.requires.0.reading (upto_sets c.requires.1.given.opened _ _ c.requires.0.pair.first.low c.requires.0.pair.first.is _ _ _ _ _ _ _ _ c.of_agent.ensures c.above.ensures c.sub-upto.ensures c.wide_visible.ensures c.bitand.ensures c.without-wide.ensures c.plain_visible.ensures c.bitand-plain.ensures) _ c.bitand-2.ensures c.bytes_of-m.ensures (more_end _ _ _ (seen_off _ _ _ _ _ _) _ _ (sym c.has_any.ensures ∙ c.loop-wide-test.false) c.loop-wide.invariant.1)
+    seen_met c.requires.1.given.opened c.requires.1.locating _ _ c.requires.0.pair.first.low c.requires.0.pair.second.low c.requires.0.pair c.requires.2 c.requires.0.reading (upto_sets c.requires.1.given.opened _ _ c.requires.0.pair.first.low c.requires.0.pair.first.is _ _ _ _ _ _ _ _ c.of_agent.ensures c.above.ensures c.sub-upto.ensures c.wide_visible.ensures c.bitand.ensures c.without-wide.ensures c.plain_visible.ensures c.bitand-plain.ensures) _ c.bitand-2.ensures c.bytes_of-m.ensures (more_end _ _ _ (seen_off _ _ _ _ _ _) _ _ c.in-None.ensures.steps.0 c.loop-a.invariant.1)

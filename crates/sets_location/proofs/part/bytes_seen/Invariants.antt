@@ -7,8 +7,5 @@ use Rattle.sets_of_rows.specs.Walk.{Walk}
 use Rattle.sets_location.specs.Bytes.{MoreTo, byte_seen}
 use Rattle.sets_location.proofs.part.bytes_seen.Given as goal
 
-abbrev pub invariant-loop-wide : goal.invariant-loop-wide
-invariant-loop-wide l = Walk l.fn.g.parts l.a-iterator.left × MoreTo (bit_of l.initial.m) (byte_seen (table_in l.t l.n) l.w l.x l.wide l.plain l.fn.g.parts) l.m (next l.a-iterator.left)
-
-abbrev pub decreases-loop-wide : goal.decreases-loop-wide
-decreases-loop-wide l = ROWS - next l.a-iterator.left
+abbrev pub invariant-loop-a : goal.invariant-loop-a
+invariant-loop-a l = Walk l.fn.g.parts l.a-iterator.left × MoreTo (bit_of l.initial.m) (byte_seen (table_in l.t l.n) l.w l.x l.wide l.plain l.fn.g.parts) l.m (next l.a-iterator.left)

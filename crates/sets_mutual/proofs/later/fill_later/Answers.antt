@@ -15,8 +15,8 @@ use Rattle.sets_mutual.specs.Later.{later_only}
 use borrow.Author.Rules.{rules}
 use Rattle.sets_mutual.proofs.later.fill_later.Goals as goal
 
-pub rows-left-requires : goal.rows-left-requires
-rows-left-requires c =
+pub rows-i-items-requires : goal.rows-i-items-requires
+rows-i-items-requires c =
     let a = c.requires.0.opened.space in omega arith
 
 pub loop-i-init : goal.loop-i-init
@@ -28,7 +28,7 @@ later_row-x-requires c =
     let pre = c.requires in
     let o = pre.0.opened in
     let small = few o in
-    let m = member_in _ (rows_at (c.into_iter-i-iterator.ensures.into_iter_gives ∙ c.rows.ensures) (says_rows o.known.tested.kinds.ranked)) (walk_in c.loop-i.invariant.1.walk c.in-Some.ensures.steps.0) in
+    let m = member_in _ (rows_at (c.into_iter-i-iterator.ensures.into_iter_gives ∙ c.rows-i-items.ensures) (says_rows o.known.tested.kinds.ranked)) (walk_in c.loop-i.invariant.1.walk c.in-Some.ensures.steps.0) in
     let f = within_trans (within_cleared LATER LATER_END (omega arith) c.clear.ensures) c.loop-i.invariant.1.frame in
     (record { low = m.0; is = m.1 }, given_kept f pre.0, grid_kept (λ h. absurd (omega arith)) f pre.1)
 
@@ -41,5 +41,5 @@ loop-i-preserved c =
 pub returns : goal.returns
 returns c =
     let o = c.requires.0.opened in
-    filled_made _ (few o) (rows_at (c.into_iter-i-iterator.ensures.into_iter_gives ∙ c.rows.ensures) (says_rows o.known.tested.kinds.ranked)) (λ i j l m e. later_only _ i j e)
+    filled_made _ (few o) (rows_at (c.into_iter-i-iterator.ensures.into_iter_gives ∙ c.rows-i-items.ensures) (says_rows o.known.tested.kinds.ranked)) (λ i j l m e. later_only _ i j e)
     (fill_end _ _ _ _ c.clear.ensures c.in-None.ensures.steps.0 c.loop-i.invariant.1)

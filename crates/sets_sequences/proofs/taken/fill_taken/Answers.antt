@@ -28,14 +28,14 @@ pub loop-y-init : goal.loop-y-init
 loop-y-init c =
     let o = c.requires.0.opened in
     let small = few o in
-    (within_refl _ _ _, taken_begin _ _ o.rows small _ (rows_and (rows_at c.rows.ensures (says_rows o.known.tested.kinds.atomic)) (rows_at c.rows-2.ensures (says_rows o.known.tested.accesses.reads)) (started c.into_iter-y-iterator.ensures.into_iter_gives c.bitand.ensures)) (λ k j l. cleared TAKEN _ (search rules) c.clear.ensures k j (omega arith)))
+    (within_refl _ _ _, taken_begin _ _ o.rows small _ (rows_and (rows_at c.rows.ensures (says_rows o.known.tested.kinds.atomic)) (rows_at c.rows-2.ensures (says_rows o.known.tested.accesses.reads)) (started c.into_iter-y-iterator.ensures.into_iter_gives c.bitand-y-items.ensures)) (λ k j l. cleared TAKEN _ (search rules) c.clear.ensures k j (omega arith)))
 
 pub take_from-requires : goal.take_from-requires
 take_from-requires c =
     let pre = c.requires in
     let o = pre.0.opened in
     let small = few o in
-    let m = member_in _ (rows_and (rows_at c.rows.ensures (says_rows o.known.tested.kinds.atomic)) (rows_at c.rows-2.ensures (says_rows o.known.tested.accesses.reads)) (started c.into_iter-y-iterator.ensures.into_iter_gives c.bitand.ensures)) (walk_in c.loop-y.invariant.1.0 c.in-Some.ensures.steps.0) in
+    let m = member_in _ (rows_and (rows_at c.rows.ensures (says_rows o.known.tested.kinds.atomic)) (rows_at c.rows-2.ensures (says_rows o.known.tested.accesses.reads)) (started c.into_iter-y-iterator.ensures.into_iter_gives c.bitand-y-items.ensures)) (walk_in c.loop-y.invariant.1.0 c.in-Some.ensures.steps.0) in
     let f = within_trans (within_cleared TAKEN TAKEN_END (omega arith) c.clear.ensures) c.loop-y.invariant.0 in
     record {
       given = given_kept f pre.0;
@@ -50,7 +50,7 @@ loop-y-preserved c =
     let o = c.requires.0.opened in
     let inv = c.loop-y.invariant in
     let take = c.take_from.ensures in
-    let says = rows_and (rows_at c.rows.ensures (says_rows o.known.tested.kinds.atomic)) (rows_at c.rows-2.ensures (says_rows o.known.tested.accesses.reads)) (started c.into_iter-y-iterator.ensures.into_iter_gives c.bitand.ensures) in
+    let says = rows_and (rows_at c.rows.ensures (says_rows o.known.tested.kinds.atomic)) (rows_at c.rows-2.ensures (says_rows o.known.tested.accesses.reads)) (started c.into_iter-y-iterator.ensures.into_iter_gives c.bitand-y-items.ensures) in
     (within_trans inv.0 (step_frame _ _ o.rows (few o) _ says take), taken_step _ _ o.rows (few o) _ says inv.1 c.in-Some.ensures.steps.0 c.in-Some.ensures.steps.1 take)
 
 pub shape_of-w : goal.shape_of-w
@@ -61,4 +61,4 @@ shape_of-w c =
 pub returns : goal.returns
 returns c =
     let o = c.requires.0.opened in
-    taken_end _ _ o.rows (few o) _ (rows_and (rows_at c.rows.ensures (says_rows o.known.tested.kinds.atomic)) (rows_at c.rows-2.ensures (says_rows o.known.tested.accesses.reads)) (started c.into_iter-y-iterator.ensures.into_iter_gives c.bitand.ensures)) _ c.in-None.ensures.steps.0 c.loop-y.invariant.1.1 (within_trans (within_cleared TAKEN TAKEN_END (omega arith) c.clear.ensures) c.loop-y.invariant.0)
+    taken_end _ _ o.rows (few o) _ (rows_and (rows_at c.rows.ensures (says_rows o.known.tested.kinds.atomic)) (rows_at c.rows-2.ensures (says_rows o.known.tested.accesses.reads)) (started c.into_iter-y-iterator.ensures.into_iter_gives c.bitand-y-items.ensures)) _ c.in-None.ensures.steps.0 c.loop-y.invariant.1.1 (within_trans (within_cleared TAKEN TAKEN_END (omega arith) c.clear.ensures) c.loop-y.invariant.0)

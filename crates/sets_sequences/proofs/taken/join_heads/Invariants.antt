@@ -8,8 +8,5 @@ use Rattle.sets_of_rows.specs.Walk.{Walk}
 use Rattle.sets_sequences.specs.Taken.{TakesTo}
 use Rattle.sets_sequences.proofs.taken.join_heads.Given as goal
 
-abbrev pub invariant-loop-x : goal.invariant-loop-x
-invariant-loop-x l = (length l.w ≡ length l.initial.w) × (Walk l.initial.h-iterator.left l.h-iterator.left × TakesTo (table_in l.t l.n) l.n l.y l.source (next l.h-iterator.left) l.initial.w l.w)
-
-abbrev pub decreases-loop-x : goal.decreases-loop-x
-decreases-loop-x l = ROWS - next l.h-iterator.left
+abbrev pub invariant-loop-h : goal.invariant-loop-h
+invariant-loop-h l = (length l.w ≡ length l.initial.w) × (Walk l.initial.h-iterator.left l.h-iterator.left × TakesTo (table_in l.t l.n) l.n l.y l.source (next l.h-iterator.left) l.initial.w l.w)

@@ -88,9 +88,11 @@ fn search(h: usize, nodes: Set, waiting: Set, w: &mut [u64])
     ensures { Searches h nodes waiting w.old w.new }
 {
     let mut seen = Set::none();
-    while let Some(j) = ahead(h, nodes, seen, w).first() {
+    let mut left = ahead(h, nodes, seen, w);
+    while let Some(j) = left.first() {
         take_in(h, j, w);
         seen |= behind(j, waiting, w);
+        left = ahead(h, nodes, seen, w);
     }
 }
 

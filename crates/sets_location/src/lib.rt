@@ -122,7 +122,7 @@ fn met_whole(t: &Run, n: usize, s: &[u64], x: usize, g: part::Available) -> Set
 {
     let reads = sets_of_table::rows(s, sets_of_table::READS);
     let wide = g.by & part::wide_visible(t, s, x);
-    let seen = part::seen(t, n, s, wide);
+    let seen = part::seen(t, n, s, false, wide);
     (g.to - reads) | (seen & reads)
 }
 

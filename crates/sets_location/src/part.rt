@@ -42,29 +42,26 @@ pub fn covers(t: &Run, a: usize, x: usize) -> bool
     (fields::start(t, a) <= fields::start(t, x)) & (fields::end(t, x) <= fields::end(t, a))
 }
 
-// The rows after one of the visibility operations of atomics and barriers: for each agent those after its first.
-pub fn seen(t: &Run, n: usize, s: &[u64], operations: Set) -> Set
-    requires { Among n operations × Opened (table_in t.now n) n s.now }
-    ensures { Rows n (seen (table_in t.now n) false (in_set operations)) result }
+// The rows after the visibility operation of row v; that of a plain row comes before it.
+fn seen_by(t: &Run, n: usize, s: &[u64], plain: bool, v: usize) -> Set
+    requires { (v < n) × Opened (table_in t.now n) n s.now }
+    ensures { Rows n (sees (table_in t.now n) plain v) result }
 {
-    let mut left = operations;
-    let mut all = Set::none();
-    while let Some(v) = left.first() {
-        all |= sets_of_table::ask::after(t, n, s, v);
-        left = left - sets_of_table::ask::of_agent(t, n, s, v);
+    if plain {
+        return sets_of_table::ask::onward(t, n, s, v);
     }
-    all
+    sets_of_table::ask::after(t, n, s, v)
 }
 
-// The same of plain rows, whose operation comes before them.
-fn seen_plain(t: &Run, n: usize, s: &[u64], operations: Set) -> Set
+// The rows after one of the visibility operations, all of plain rows or all of others: for each agent those after its first.
+pub fn seen(t: &Run, n: usize, s: &[u64], plain: bool, operations: Set) -> Set
     requires { Among n operations × Opened (table_in t.now n) n s.now }
-    ensures { Rows n (seen (table_in t.now n) true (in_set operations)) result }
+    ensures { Rows n (seen (table_in t.now n) plain (in_set operations)) result }
 {
     let mut left = operations;
     let mut all = Set::none();
     while let Some(v) = left.first() {
-        all |= sets_of_table::ask::onward(t, n, s, v);
+        all |= seen_by(t, n, s, plain, v);
         left = left - sets_of_table::ask::of_agent(t, n, s, v);
     }
     all
@@ -97,9 +94,9 @@ pub fn maybe_met(t: &Run, n: usize, s: &[u64], x: usize, g: Available, w: &[u64]
     let reads = sets_of_table::rows(s, sets_of_table::READS);
     let at = kept::union(w, sets_grids::AVAILABLE_TO, g.parts);
     let visible = kept::union(w, sets_grids::VISIBLE_BY, g.parts);
-    let wide = seen(t, n, s, visible & wide_visible(t, s, x));
+    let wide = seen(t, n, s, false, visible & wide_visible(t, s, x));
     let by = (visible | g.by) & plain_visible(s, x);
-    let plain = seen_plain(t, n, s, by);
+    let plain = seen(t, n, s, true, by);
     (at - reads) | ((wide | plain) & reads)
 }
 

@@ -2,12 +2,11 @@
 #![tactic(auto)]
 
 ghost use Rattle.std.specs.Prelude.{◌≡◌, true, ◌*◌, ◌<◌, replicate};
-ghost use Rattle.finite.specs.Below.{any_below};
 ghost use Rattle.model.specs.Limits.{ROWS};
 ghost use Rattle.model.specs.Row.{access};
 ghost use Rattle.model.specs.Table.{row_of};
 ghost use Rattle.run.specs.Layout.{rows_in, table_in};
-ghost use Rattle.sets_of_rows.specs.Member.{in_set};
+ghost use Rattle.sets_of_rows.specs.First.{First};
 ghost use Rattle.sets_of_rows.specs.Rows.{Rows};
 ghost use Rattle.work_area.specs.Regions.{OVERLAP, OVERLAP_END};
 ghost use Rattle.work_area.specs.State.{overlaps};
@@ -20,12 +19,12 @@ use run::Run;
 use sets_of_rows::{Set, kept};
 use sets_of_table::fields;
 
-// The first location of those that have not met and each other one take in one another's rows if they share bytes. Gives the others.
-fn take_in(t: &Run, n: usize, s: &[u64], unmet: Set, near: &mut [u64]) -> Set
-    requires { (any_below ROWS (in_set unmet) ≡ true) × Opened (table_in t.now n) n s.now × Meeting (table_in t.now n) n unmet near.old }
+// The location of row i, the first of those that have not met, and each other one take in one another's rows if they share bytes. Gives
+// the others.
+fn take_in(t: &Run, n: usize, s: &[u64], unmet: Set, i: usize, near: &mut [u64]) -> Set
+    requires { First unmet i × Opened (table_in t.now n) n s.now × Meeting (table_in t.now n) n unmet near.old }
     ensures { Met (table_in t.now n) n unmet result near.new }
 {
-    let i = unmet.first().unwrap();
     let start = fields::start(t, i);
     let end = fields::end(t, i);
     let own = kept::get(s, sets_of_table::PLACE, i);
@@ -50,8 +49,8 @@ fn meet(t: &Run, n: usize, s: &[u64], near: &mut [u64])
     ensures { Near (table_in t.now n) n near.new }
 {
     let mut unmet = sets_of_table::rows(s, sets_of_table::ACCESS);
-    while unmet.has_any() {
-        unmet = take_in(t, n, s, unmet, near);
+    while let Some(i) = unmet.first() {
+        unmet = take_in(t, n, s, unmet, i, near);
     }
 }
 

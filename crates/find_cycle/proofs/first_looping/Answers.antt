@@ -10,43 +10,37 @@ below-requires c = c.requires.0
 pub get-requires : goal.get-requires
 get-requires c = omega (arith, c.requires.1)
 
-pub loop-left-init : goal.loop-left-init
-loop-left-init c =
+pub loop-x-init : goal.loop-x-init
+loop-x-init c =
     let pre = c.requires in
     let rows = marks_of _ _ _ _ pre.0 c.below.ensures c.get.ensures c.bitand-left.ensures in
     search_begin _ _ (loop_off pre.2 rows)
-
-pub first-x-requires : goal.first-x-requires
-first-x-requires c = sym c.has_any.ensures ∙ c.loop-left-test.true
 
 pub leads_back-requires : goal.leads_back-requires
 leads_back-requires c =
     let pre = c.requires in
     let rows = marks_of _ _ _ _ pre.0 c.below.ensures c.get.ensures c.bitand-left.ensures in
-    let inv = c.loop-left.invariant in
-    let low = c.first-x.ensures in
+    let inv = c.loop-x.invariant in
+    let low = c.in-Some.ensures in
     (pre.0, pre.1, loop_among pre.2 rows inv low)
 
 pub returns-then-leads_back : goal.returns-then-leads_back
 returns-then-leads_back c =
     let pre = c.requires in
     let rows = marks_of _ _ _ _ pre.0 c.below.ensures c.get.ensures c.bitand-left.ensures in
-    loop_found pre.2 rows c.loop-left.invariant c.first-x.ensures _ c.leads_back.ensures c.if-leads_back.true
+    loop_found pre.2 rows c.loop-x.invariant c.in-Some.ensures _ c.leads_back.ensures c.if-leads_back.true
 
-pub but_first-left-requires : goal.but_first-left-requires
-but_first-left-requires c = sym c.has_any.ensures ∙ c.loop-left-test.true
+pub loop-x-smaller : goal.loop-x-smaller
+loop-x-smaller c = walk_less c.in-Some.ensures c.but_first-left.ensures
 
-pub loop-left-smaller : goal.loop-left-smaller
-loop-left-smaller c = walk_less c.first-x.ensures c.but_first-left.ensures
-
-pub loop-left-preserved : goal.loop-left-preserved
-loop-left-preserved c =
+pub loop-x-preserved : goal.loop-x-preserved
+loop-x-preserved c =
     let pre = c.requires in
     let rows = marks_of _ _ _ _ pre.0 c.below.ensures c.get.ensures c.bitand-left.ensures in
-    search_turn _ _ (loop_off pre.2 rows) c.loop-left.invariant c.first-x.ensures c.but_first-left.ensures (loop_not pre.2 rows _ _ c.leads_back.ensures c.if-leads_back.false)
+    search_turn _ _ (loop_off pre.2 rows) c.loop-x.invariant c.in-Some.ensures c.but_first-left.ensures (loop_not pre.2 rows _ _ c.leads_back.ensures c.if-leads_back.false)
 
 pub returns : goal.returns
 returns c =
     let pre = c.requires in
     let rows = marks_of _ _ _ _ pre.0 c.below.ensures c.get.ensures c.bitand-left.ensures in
-    loop_none pre.2 rows pre.0 (search_end _ _ (loop_off pre.2 rows) _ (sym c.has_any.ensures ∙ c.loop-left-test.false) c.loop-left.invariant.1)
+    loop_none pre.2 rows pre.0 (search_end _ _ (loop_off pre.2 rows) _ (c.in_default.ensures) c.loop-x.invariant.1)

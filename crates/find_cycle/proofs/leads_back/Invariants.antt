@@ -6,8 +6,8 @@ use Rattle.sets_of_rows.specs.Member.{in_set}
 use Rattle.find_cycle.proofs.Closing.{Going}
 use Rattle.find_cycle.proofs.leads_back.Given as goal
 
-abbrev pub invariant-loop-ahead : goal.invariant-loop-ahead
-invariant-loop-ahead l = Going l.n (rel l.w EDGE GRID) l.x l.initial.ahead l.ahead l.left
+abbrev pub invariant-loop-i : goal.invariant-loop-i
+invariant-loop-i l = Going l.n (rel l.w EDGE GRID) l.x l.initial.ahead l.ahead l.left
 
-abbrev pub decreases-loop-ahead : goal.decreases-loop-ahead
-decreases-loop-ahead l = count_below ROWS (in_set l.ahead)
+abbrev pub decreases-loop-i : goal.decreases-loop-i
+decreases-loop-i l = count_below ROWS (in_set l.ahead)

@@ -17,13 +17,13 @@ pub returns-then-has_any : goal.returns-then-has_any
 returns-then-has_any c =
     let m = walk_in c.loop-a.invariant.0 c.in-Some.ensures.steps.0 in
     synced_found _ _ _ _ (c.requires.2 _ m)
-    (sym (synced_at _ _ _ _ _ _ _ (given_few c.requires.0) m (grid_at c.requires.1 (c.requires.2 _ m) c.get.ensures) c.bitand.ensures c.has_any-in-loop-a.ensures) ∙ c.if-has_any.true)
+    (sym (synced_at _ _ _ _ _ _ _ (given_few c.requires.0) m (grid_at c.requires.1 (c.requires.2 _ m) c.get.ensures) c.bitand.ensures c.has_any.ensures) ∙ c.if-has_any.true)
 
 pub loop-a-preserved : goal.loop-a-preserved
 loop-a-preserved c =
     let m = walk_in c.loop-a.invariant.0 c.in-Some.ensures.steps.0 in
     search_turn _ _ (λ i e. synced_off _ _ _ i e) c.loop-a.invariant c.in-Some.ensures.steps.0 c.in-Some.ensures.steps.1
-    (sym (synced_at _ _ _ _ _ _ _ (given_few c.requires.0) m (grid_at c.requires.1 (c.requires.2 _ m) c.get.ensures) c.bitand.ensures c.has_any-in-loop-a.ensures) ∙ c.if-has_any.false)
+    (sym (synced_at _ _ _ _ _ _ _ (given_few c.requires.0) m (grid_at c.requires.1 (c.requires.2 _ m) c.get.ensures) c.bitand.ensures c.has_any.ensures) ∙ c.if-has_any.false)
 
 pub returns : goal.returns
 returns c =

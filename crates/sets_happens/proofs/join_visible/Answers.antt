@@ -1,13 +1,10 @@
-use mathlib.Core.Path.{sym, ◌∙◌}
+use Rattle.sets_of_rows.specs.First.{first_any}
 use Rattle.sets_happens.specs.Behind.{joins_visible_none, joins_visible}
 use Rattle.sets_happens.proofs.join_visible.Goals as goal
 
-pub returns-then-not-has_any : goal.returns-then-not-has_any
-returns-then-not-has_any c = joins_visible_none _ _ _ (sym c.has_any.ensures ∙ c.if-not-has_any.true)
-
-pub first-requires : goal.first-requires
-first-requires c = sym c.has_any.ensures ∙ c.if-not-has_any.false
+pub returns-in_default : goal.returns-in_default
+returns-in_default c = joins_visible_none _ _ _ c.in_default.ensures
 
 pub returns : goal.returns
 returns c =
-    joins_visible _ c.requires.0 (sym c.has_any.ensures ∙ c.if-not-has_any.false) c.first.ensures c.get-visible.ensures c.join.ensures
+    joins_visible _ c.requires.0 (first_any c.in-Some.ensures) c.in-Some.ensures c.get-visible.ensures c.join.ensures

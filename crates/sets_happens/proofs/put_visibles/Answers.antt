@@ -17,7 +17,7 @@ loop-v-init c = (add_begin _ _ _ _, within_refl _ _ _)
 
 pub after-requires : goal.after-requires
 after-requires c =
-    ((member_in _ (visible_set c.requires.0.opened c.rows-visible.ensures) (walk_in c.loop-v.invariant.0.walk c.in-Some.ensures.steps.0)).0, c.requires.0.opened)
+    ((member_in _ (visible_set c.requires.0.opened (c.into_iter-v-iterator.ensures.into_iter_gives ∙ c.rows-visible.ensures)) (walk_in c.loop-v.invariant.0.walk c.in-Some.ensures.steps.0)).0, c.requires.0.opened)
 
 pub put-requires : goal.put-requires
 put-requires c =
@@ -40,6 +40,6 @@ pub returns : goal.returns
 returns c =
     let o = c.requires.0.opened.rows in
     record {
-      grid = made_grid _ _ (given_few c.requires.0) (visible_set c.requires.0.opened c.rows-visible.ensures) (λ i j l m. visibles_order _ o i j l m) _ c.in-None.ensures.steps.0 c.loop-v.invariant.0 c.requires.1;
+      grid = made_grid _ _ (given_few c.requires.0) (visible_set c.requires.0.opened (c.into_iter-v-iterator.ensures.into_iter_gives ∙ c.rows-visible.ensures)) (λ i j l m. visibles_order _ o i j l m) _ c.in-None.ensures.steps.0 c.loop-v.invariant.0 c.requires.1;
       frame = c.loop-v.invariant.1;
     }

@@ -5,8 +5,8 @@ use Rattle.sets_of_rows.specs.First.{next}
 use Rattle.sets_overlap.specs.Overlap.{Meeting}
 use Rattle.sets_overlap.proofs.meet.Given as goal
 
-abbrev pub invariant-loop-unmet : goal.invariant-loop-unmet
-invariant-loop-unmet l = Meeting (table_in l.t l.n) l.n l.unmet l.near
+abbrev pub invariant-loop-i : goal.invariant-loop-i
+invariant-loop-i l = Meeting (table_in l.t l.n) l.n l.unmet l.near
 
-abbrev pub decreases-loop-unmet : goal.decreases-loop-unmet
-decreases-loop-unmet l = ROWS - next l.unmet
+abbrev pub decreases-loop-i : goal.decreases-loop-i
+decreases-loop-i l = ROWS - next l.unmet

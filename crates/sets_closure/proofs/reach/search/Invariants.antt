@@ -1,8 +1,8 @@
 use Rattle.sets_closure.specs.Reaching.{Seeing, unseen}
 use Rattle.sets_closure.proofs.reach.search.Given as goal
 
-abbrev pub invariant-loop-nodes : goal.invariant-loop-nodes
-invariant-loop-nodes l = Seeing l.h l.nodes l.waiting l.initial.w l.left l.seen l.w
+abbrev pub invariant-loop-j : goal.invariant-loop-j
+invariant-loop-j l = Seeing l.h l.nodes l.waiting l.initial.w l.left l.seen l.w
 
-abbrev pub decreases-loop-nodes : goal.decreases-loop-nodes
-decreases-loop-nodes l = unseen l.seen
+abbrev pub decreases-loop-j : goal.decreases-loop-j
+decreases-loop-j l = unseen l.seen

@@ -48,7 +48,7 @@ loop-a-smaller-then-has_any c =
 
 pub loop-a-preserved-then-has_any : goal.loop-a-preserved-then-has_any
 loop-a-preserved-then-has_any c =
-    more_turn _ _ _ (seen_off _ _ _ _ _ _) c.loop-a.invariant c.in-Some.ensures.steps.0 c.in-Some.ensures.steps.1 (seen_wide _ _ _ _ _ _ _ c.get-visible.ensures _ _ c.bitand-in-loop-a.ensures c.has_any-in-loop-a.ensures c.if-has_any.true c.shared-own.ensures)
+    more_turn _ _ _ (seen_off _ _ _ _ _ _) c.loop-a.invariant c.in-Some.ensures.steps.0 c.in-Some.ensures.steps.1 (seen_wide _ _ _ _ _ _ _ c.get-visible.ensures _ _ c.bitand-in-loop-a.ensures c.has_any.ensures c.if-has_any.true c.shared-own.ensures)
 
 pub bytes_of-requires : goal.bytes_of-requires
 unfolding decode
@@ -57,7 +57,7 @@ bytes_of-requires c =
 
 pub loop-a-preserved : goal.loop-a-preserved
 loop-a-preserved c =
-    more_turn _ _ _ (seen_off _ _ _ _ _ _) c.loop-a.invariant c.in-Some.ensures.steps.0 c.in-Some.ensures.steps.1 (seen_part _ _ _ _ _ _ _ c.get-visible.ensures _ _ _ c.bitand-in-loop-a.ensures c.has_any-in-loop-a.ensures c.if-has_any.false c.bitand-else-has_any.ensures c.shared-own.ensures c.bytes_of.ensures)
+    more_turn _ _ _ (seen_off _ _ _ _ _ _) c.loop-a.invariant c.in-Some.ensures.steps.0 c.in-Some.ensures.steps.1 (seen_part _ _ _ _ _ _ _ c.get-visible.ensures _ _ _ c.bitand-in-loop-a.ensures c.has_any.ensures c.if-has_any.false c.bitand-else-has_any.ensures c.shared-own.ensures c.bytes_of.ensures)
 
 pub returns : goal.returns
 unfolding decode

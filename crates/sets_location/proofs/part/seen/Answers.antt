@@ -1,31 +1,27 @@
 use mathlib.Core.Path.{sym, ◌∙◌}
-use mathlib.Core.Bool.{false}
 use Rattle.sets_of_table.specs.Ask.{few}
-use Rattle.sets_location.specs.Seen.{seeing_begin, seeing_turn, seeing_less, seeing_end, sees_after}
+use Rattle.sets_location.specs.Seen.{seeing_begin, seeing_turn, seeing_less, seeing_end}
 use Rattle.sets_location.proofs.part.seen.Goals as goal
 
-pub loop-left-init : goal.loop-left-init
-loop-left-init c = seeing_begin _ _ c.requires.1.rows false _ c.requires.0 c.none-all.ensures
+pub loop-v-init : goal.loop-v-init
+loop-v-init c = seeing_begin _ _ c.requires.1.rows _ _ c.requires.0 c.none-all.ensures
 
-pub first-v-requires : goal.first-v-requires
-first-v-requires c = sym c.has_any.ensures ∙ c.loop-left-test.true
-
-pub after-requires : goal.after-requires
-after-requires c =
-    (c.loop-left.invariant.low _ c.first-v.ensures.hit, c.requires.1)
+pub seen_by-requires : goal.seen_by-requires
+seen_by-requires c =
+    (c.loop-v.invariant.low _ c.in-Some.ensures.hit, c.requires.1)
 
 pub of_agent-requires : goal.of_agent-requires
 of_agent-requires c =
-    (c.loop-left.invariant.low _ c.first-v.ensures.hit, c.requires.1)
+    (c.loop-v.invariant.low _ c.in-Some.ensures.hit, c.requires.1)
 
-pub loop-left-smaller : goal.loop-left-smaller
-loop-left-smaller c =
-    seeing_less _ _ c.requires.1.rows false _ _ _ _ c.loop-left.invariant c.first-v.ensures (sees_after _ _ c.after.ensures) c.of_agent.ensures c.bitor_assign.ensures.after c.sub-left.ensures
+pub loop-v-smaller : goal.loop-v-smaller
+loop-v-smaller c =
+    seeing_less _ _ c.requires.1.rows _ _ _ _ _ c.loop-v.invariant c.in-Some.ensures c.seen_by.ensures c.of_agent.ensures c.bitor_assign.ensures.after c.sub-left.ensures
 
-pub loop-left-preserved : goal.loop-left-preserved
-loop-left-preserved c =
-    seeing_turn _ _ c.requires.1.rows false _ _ _ _ c.loop-left.invariant c.first-v.ensures (sees_after _ _ c.after.ensures) c.of_agent.ensures c.bitor_assign.ensures.after c.sub-left.ensures
+pub loop-v-preserved : goal.loop-v-preserved
+loop-v-preserved c =
+    seeing_turn _ _ c.requires.1.rows _ _ _ _ _ c.loop-v.invariant c.in-Some.ensures c.seen_by.ensures c.of_agent.ensures c.bitor_assign.ensures.after c.sub-left.ensures
 
 pub returns : goal.returns
 returns c =
-    seeing_end _ _ c.requires.1.rows false _ (few c.requires.1) (sym c.has_any.ensures ∙ c.loop-left-test.false) c.loop-left.invariant
+    seeing_end _ _ c.requires.1.rows _ _ (few c.requires.1) (c.in_default.ensures) c.loop-v.invariant

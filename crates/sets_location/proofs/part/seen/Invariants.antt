@@ -1,4 +1,3 @@
-use mathlib.Core.Bool.{false}
 use Prim.Native.Nat.{◌-◌}
 use Rattle.model.specs.Limits.{ROWS}
 use Rattle.run.specs.Layout.{table_in}
@@ -6,8 +5,8 @@ use Rattle.sets_of_rows.specs.First.{next}
 use Rattle.sets_location.specs.Seen.{Seeing}
 use Rattle.sets_location.proofs.part.seen.Given as goal
 
-abbrev pub invariant-loop-left : goal.invariant-loop-left
-invariant-loop-left l = Seeing (table_in l.t l.n) l.n false l.initial.left l.all l.left
+abbrev pub invariant-loop-v : goal.invariant-loop-v
+invariant-loop-v l = Seeing (table_in l.t l.n) l.n l.plain l.initial.left l.all l.left
 
-abbrev pub decreases-loop-left : goal.decreases-loop-left
-decreases-loop-left l = ROWS - next l.left
+abbrev pub decreases-loop-v : goal.decreases-loop-v
+decreases-loop-v l = ROWS - next l.left

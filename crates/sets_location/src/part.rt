@@ -15,7 +15,7 @@ ghost use Rattle.finite.specs.Several.{TwoOf};
 ghost use Rattle.sets_grids.specs.RowThat.{RowThat};
 ghost use Rattle.sets_grids.specs.Given.{Fitting};
 ghost use Rattle.sets_grids.specs.Location.{ToLocate};
-ghost use Rattle.sets_location.specs.Seen.{Among};
+ghost use Rattle.sets_location.specs.Seen.{Among, sees};
 ghost use Rattle.sets_location.specs.Met.{Grasps};
 ghost use Rattle.sets_location.specs.Adds.{Pair, Reader, MetBytes};
 ghost use Rattle.sets_location.specs.Maybe.{Maybes};

@@ -1,6 +1,6 @@
 -- The first and the last member of a set, the rest, and how many there are. Assumes nothing.
-use Rattle.std.specs.Prelude.{◌≡◌, refl, true, false, not, ℕ, ◌+◌, ◌-◌, ◌^◌, ◌≤◌, ◌<◌, eqb, ltb}
-use Rattle.std.proofs.Common.{sym, ap, ap₂, ◌∙◌, ⊎_elim, arith, eq-eqb, ne_eqb, lt-ltb, le-ltb}
+use Rattle.std.specs.Prelude.{Option, None, Some, IsSome, MatchOption, ◌≡◌, refl, true, false, not, ℕ, ◌+◌, ◌-◌, ◌^◌, ◌≤◌, ◌<◌, eqb, ltb}
+use Rattle.std.proofs.Common.{subst, sym, ap, ap₂, ◌∙◌, ⊎_elim, arith, eq-eqb, ne_eqb, lt-ltb, le-ltb}
 use Rattle.std.proofs.Math.Decide.{dec_lt, ℕ_discrete}
 use Rattle.std.specs.Int.Bits.{bit_and, bit_or}
 use Rattle.std.specs.Int.Count.{ones, count_trailing_zeros}
@@ -135,6 +135,17 @@ first_high a e p l = record { bound = omega (arith, s); hit = in_high a t s ∙ 
 -- a set with a first has a member
 pub first_any : {x : Set} {i : ℕ} → First x i → any_below ROWS (in_set x) ≡ true
 first_any {x} {i} f = any_in (in_set x) ROWS i f.bound f.hit
+
+-- what `first` says of a set with a member: that there is one, and which it is
+abbrev pub SaysFirst : Set → Option ℕ → Type 0
+SaysFirst x r = MatchOption r (any_below ROWS (in_set x) ≡ false) (First x)
+
+pub first_there : (x : Set) (r : Option ℕ) → SaysFirst x r → any_below ROWS (in_set x) ≡ true → IsSome r
+first_there x None h e = not_both e h
+first_there x (Some i) h e = refl
+
+pub first_said : (x : Set) {i : ℕ} {r : Option ℕ} → SaysFirst x r → r ≡ Some i → First x i
+first_said x h e = subst (SaysFirst x) e h
 
 -- words that are 0 have no first
 pub none_any : (a : Set) → a.lo ≡ 0 → a.hi ≡ 0 → any_below ROWS (in_set a) ≡ false

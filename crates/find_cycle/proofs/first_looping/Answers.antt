@@ -1,3 +1,4 @@
+use Rattle.sets_of_rows.specs.First.{first_any}
 use mathlib.Core.Path.{sym, ◌∙◌}
 use native.Mathlib.Omega.{arith}
 use Rattle.sets_of_rows.specs.Walk.{walk_less, search_begin, search_turn, search_end}
@@ -29,6 +30,9 @@ returns-then-leads_back c =
     let pre = c.requires in
     let rows = marks_of _ _ _ _ pre.0 c.below.ensures c.get.ensures c.bitand-left.ensures in
     loop_found pre.2 rows c.loop-x.invariant c.in-Some.ensures _ c.leads_back.ensures c.if-leads_back.true
+
+pub but_first-left-requires : goal.but_first-left-requires
+but_first-left-requires c = first_any c.in-Some.ensures
 
 pub loop-x-smaller : goal.loop-x-smaller
 loop-x-smaller c = walk_less c.in-Some.ensures c.but_first-left.ensures

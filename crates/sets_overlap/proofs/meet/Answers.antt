@@ -1,4 +1,3 @@
-use Rattle.sets_of_rows.specs.First.{first_any}
 use mathlib.Core.Path.{sym, ap, ◌∙◌}
 use native.Mathlib.Omega.{arith}
 use lib.ListN.{length, length-replicate}
@@ -18,7 +17,7 @@ loop-i-init c = meeting_begin c.requires.0 _ c.rows-unmet.ensures c.requires.1
 pub take_in-unmet-requires : goal.take_in-unmet-requires
 unfolding decode
 take_in-unmet-requires c =
-    (c.in-Some.ensures), c.requires.0, c.loop-i.invariant)
+    (c.in-Some.ensures, c.requires.0, c.loop-i.invariant)
 
 pub loop-i-smaller : goal.loop-i-smaller
 loop-i-smaller c = c.take_in-unmet.ensures.less
@@ -33,4 +32,4 @@ shape_of-near c =
 pub returns : goal.returns
 unfolding decode
 returns c =
-    meeting_end c.requires.0 (c.in_default.ensures) c.loop-i.invariant
+    meeting_end c.requires.0 c.in_default.ensures c.loop-i.invariant

@@ -50,7 +50,7 @@ loop-j-smaller-then-start-end c =
 pub loop-j-preserved-then-start-end : goal.loop-j-preserved-then-start-end
 unfolding decode
 loop-j-preserved-then-start-end c =
-    turn_met c.requires.1 _ c.requires.2 c.requires.0 c.get-own.ensures c.sub-rest.ensures _ c.loop-j.invariant c.in-Some.ensures c.get-here.ensures c.sub-left.ensures _ (meet_said _ _ _ _ _ _ c.start-start.ensures.0 c.end-end.ensures.0 c.end.ensures.0 c.start.ensures.0) c.if-start-end.true c.bitor-all-then-start-end.ensures c.join.ensures
+    turn_met c.requires.1 _ c.requires.2 c.requires.0 c.get-own.ensures c.sub-rest.ensures _ c.loop-j.invariant c.in-Some.ensures c.get-here.ensures c.sub-left.ensures _ (meet_said _ _ _ _ _ _ c.start-start.ensures.0 c.end-end.ensures.0 c.end.ensures.0 c.start.ensures.0) c.if-start-end.true c.bitor_assign.ensures.after c.join.ensures
 
 pub loop-j-smaller : goal.loop-j-smaller
 unfolding decode

@@ -26,11 +26,11 @@ pub plain_visible-requires : goal.plain_visible-requires
 plain_visible-requires c =
     let b = few c.requires.1.given.opened in let low = c.requires.0.low in (omega (arith, low, b), c.requires.1.given.opened.space)
 
-pub seen_plain-plain-requires : goal.seen_plain-plain-requires
-seen_plain-plain-requires c =
+pub seen-plain-requires : goal.seen-plain-requires
+seen-plain-requires c =
     (either_among c.requires.1.given.opened c.requires.1.locating _ c.requires.0.low c.requires.0.is c.requires.2 _ _ c.union-at.ensures c.union-visible.ensures _ _ _ c.bitor.ensures c.bitand-by.ensures, c.requires.1.given.opened)
 
 pub returns : goal.returns
 unfolding decode
 returns c =
-    maybe_set c.requires.1.given.opened c.requires.1.locating _ c.requires.0.low c.requires.0.is c.requires.2 _ _ c.union-at.ensures c.union-visible.ensures _ _ _ _ _ _ _ _ _ _ _ _ c.rows-reads.ensures c.wide_visible.ensures c.bitand.ensures c.seen-wide.ensures c.bitor.ensures c.plain_visible.ensures c.bitand-by.ensures c.seen_plain-plain.ensures c.sub.ensures c.bitor-2.ensures c.bitand-2.ensures c.bitor-3.ensures
+    maybe_set c.requires.1.given.opened c.requires.1.locating _ c.requires.0.low c.requires.0.is c.requires.2 _ _ c.union-at.ensures c.union-visible.ensures _ _ _ _ _ _ _ _ _ _ _ _ c.rows-reads.ensures c.wide_visible.ensures c.bitand.ensures c.seen-wide.ensures c.bitor.ensures c.plain_visible.ensures c.bitand-by.ensures c.seen-plain.ensures c.sub.ensures c.bitor-2.ensures c.bitand-2.ensures c.bitor-3.ensures

@@ -1,6 +1,7 @@
 use mathlib.Core.Path.{sym, ◌∙◌}
 use Rattle.model.specs.Table.{decode}
 use Rattle.sets_of_rows.specs.Walk.{walk_less}
+use Rattle.sets_of_rows.specs.Rows.{rows_at}
 use Rattle.sets_of_table.specs.Ask.{few}
 use Rattle.sets_location.specs.Carried.{agent_code, class_code, grasp_begin, grasp_whole, grasp_part, grasp_all, grasp_end}
 use native.Mathlib.Omega.{arith}
@@ -55,14 +56,10 @@ pub get-requires-then-covers : goal.get-requires-then-covers
 get-requires-then-covers c =
     omega (arith, c.in-Some.ensures.steps.0.bound, c.requires.1.given.room)
 
-pub loop-a-smaller-then-covers : goal.loop-a-smaller-then-covers
-loop-a-smaller-then-covers c =
-    walk_less c.in-Some.ensures.steps.0 c.in-Some.ensures.steps.1
-
 pub loop-a-preserved-then-covers : goal.loop-a-preserved-then-covers
 unfolding decode
 loop-a-preserved-then-covers c =
-    grasp_whole _ _ _ _ _ _ _ c.loop-a.invariant c.in-Some.ensures.steps.0 c.in-Some.ensures.steps.1 _ _ _ _ (sym c.covers.ensures ∙ c.if-covers.true) c.get.ensures c.get-then-covers.ensures c.bitor_assign.ensures.after c.bitor_assign.ensures.after
+    grasp_whole _ _ _ _ _ _ _ c.loop-a.invariant c.in-Some.ensures.steps.0 c.in-Some.ensures.steps.1 _ _ _ _ (sym c.covers.ensures ∙ c.if-covers.true) c.get.ensures c.get-then-covers.ensures c.bitor_assign.ensures.after c.bitor_assign-then-covers.ensures.after
 
 pub bit-requires : goal.bit-requires
 bit-requires c = c.in-Some.ensures.steps.0.bound
@@ -70,9 +67,9 @@ bit-requires c = c.in-Some.ensures.steps.0.bound
 pub loop-a-preserved : goal.loop-a-preserved
 unfolding decode
 loop-a-preserved c =
-    grasp_part _ _ _ _ _ _ _ c.loop-a.invariant c.in-Some.ensures.steps.0 c.in-Some.ensures.steps.1 _ _ (sym c.covers.ensures ∙ c.if-covers.false) c.bit.ensures c.bitor_assign.ensures.after
+    grasp_part _ _ _ _ _ _ _ c.loop-a.invariant c.in-Some.ensures.steps.0 c.in-Some.ensures.steps.1 _ _ (sym c.covers.ensures ∙ c.if-covers.false) c.bit.ensures c.bitor_assign-else-covers.ensures.after
 
 pub returns : goal.returns
 unfolding decode
 returns c =
-    grasp_end c.requires.1.given.opened _ c.requires.0.low c.plain_available-a-items.ensures _ _ c.requires.1.locating c.requires.2 c.requires.0.is c.agent.ensures c.class.ensures c.get-to.ensures c.get-by.ensures c.none-parts.ensures (grasp_all _ _ _ _ _ _ _ _ _ _ _ c.in-None.ensures.steps.0 c.loop-a.invariant.1)
+    grasp_end c.requires.1.given.opened _ c.requires.0.low (rows_at c.into_iter-a-iterator.ensures.into_iter_gives c.plain_available-a-items.ensures) _ _ c.requires.1.locating c.requires.2 c.requires.0.is c.agent.ensures c.class.ensures c.get-to.ensures c.get-by.ensures c.none-parts.ensures (grasp_all _ _ _ _ _ _ _ _ _ _ _ c.in-None.ensures.steps.0 c.loop-a.invariant.1)

@@ -9,4 +9,4 @@ use Rattle.sets_races.specs.Sums.{above, sum_below, one_of}
 use Rattle.sets_races.proofs.count_ordered.Given as goal
 
 abbrev pub invariant-loop-j : goal.invariant-loop-j
-invariant-loop-j l = Walk l.initial.left l.left × (l.count ≡ sum_below (next l.left) (one_of l.n (above (conflict_ordered (table_in l.t l.n)) l.i)))
+invariant-loop-j l = Walk l.fn.others l.j-iterator.left × (l.count ≡ sum_below (next l.j-iterator.left) (one_of l.n (above (conflict_ordered (table_in l.t l.n)) l.i)))

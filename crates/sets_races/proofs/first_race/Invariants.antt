@@ -21,6 +21,3 @@ invariant-loop-y l = Walk l.initial.y-iterator.left l.y-iterator.left × (least 
 
 abbrev pub invariant-pairs : goal.invariant-pairs
 invariant-pairs l = Walk l.initial.x-iterator.left l.x-iterator.left × (least (next l.x-iterator.left) (has_in (table_in l.t l.n) l.n) ≡ next l.x-iterator.left) × (l.answer ≡ Nothing)
-
-abbrev pub decreases-pairs : goal.decreases-pairs
-decreases-pairs l = ROWS - next l.x-iterator.left

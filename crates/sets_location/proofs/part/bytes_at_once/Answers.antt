@@ -20,10 +20,6 @@ pub shared-m-requires : goal.shared-m-requires
 shared-m-requires c =
     (c.requires.0.first, c.requires.2 _ (walk_in c.loop-a.invariant.0 c.in-Some.ensures.steps.0), c.requires.1.fit)
 
-pub loop-a-smaller-then-has : goal.loop-a-smaller-then-has
-loop-a-smaller-then-has c =
-    walk_less c.in-Some.ensures.steps.0 c.in-Some.ensures.steps.1
-
 pub loop-a-preserved-then-has : goal.loop-a-preserved-then-has
 loop-a-preserved-then-has c =
     bits_turn _ _ (to_off _ _ _ _ _) c.loop-a.invariant c.in-Some.ensures.steps.0 c.in-Some.ensures.steps.1 (λ e. to_mask _ _ _ _ _ _ (has_is _ _ _ _ _ c.get.ensures c.has.ensures c.if-has.true) e c.shared-m.ensures)

@@ -7,4 +7,4 @@ use Rattle.sets_location.specs.Elements.{BitsTo, byte_of}
 use Rattle.sets_location.proofs.part.bytes_of.Given as goal
 
 abbrev pub invariant-loop-y : goal.invariant-loop-y
-invariant-loop-y l = Walk l.initial.left l.left × BitsTo (byte_of (table_in l.t l.n) l.x l.initial.left) l.m (next l.left)
+invariant-loop-y l = Walk l.fn.rows l.y-iterator.left × BitsTo (byte_of (table_in l.t l.n) l.x l.fn.rows) l.m (next l.y-iterator.left)

@@ -42,10 +42,6 @@ pub get-visible-requires : goal.get-visible-requires
 get-visible-requires c =
     let r = c.requires.1.given.room in let l = c.in-Some.ensures.steps.0.bound in omega (arith, r, l)
 
-pub loop-a-smaller-then-has_any : goal.loop-a-smaller-then-has_any
-loop-a-smaller-then-has_any c =
-    walk_less c.in-Some.ensures.steps.0 c.in-Some.ensures.steps.1
-
 pub loop-a-preserved-then-has_any : goal.loop-a-preserved-then-has_any
 loop-a-preserved-then-has_any c =
     more_turn _ _ _ (seen_off _ _ _ _ _ _) c.loop-a.invariant c.in-Some.ensures.steps.0 c.in-Some.ensures.steps.1 (seen_wide _ _ _ _ _ _ _ c.get-visible.ensures _ _ c.bitand-in-loop-a.ensures c.has_any.ensures c.if-has_any.true c.shared-own.ensures)

@@ -30,7 +30,7 @@ fn put_head(s: &[u8], t: &mut [u8])
     requires { HEADER ≤ length t.old }
     ensures { Put 0 (λ k. get_or (head_of s.now) k 0) HEADER t.old t.new }
 {
-    let counted = pick::byte(door_rows::scopes::is_counted(s), 1, 0);
+    let counted = pick::either(door_rows::scopes::is_counted(s), 1, 0);
     let head = [0, counted, 0, 0, bytes::HOSTS, bytes::agents_at(s), 0, 0];
     bytes::put(t, 0, &head, bytes::HEADER);
 }
@@ -133,6 +133,6 @@ pub fn enter(
     }
     lay(first, second, t);
     let a = admit(first, second, t, blanks);
-    t[2] = pick::byte(chains, 1, 0);
+    t[2] = pick::either(chains, 1, 0);
     a
 }

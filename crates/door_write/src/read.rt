@@ -38,7 +38,7 @@ pub fn entries_in(rows: &[u8]) -> [Entry; 128]
     };
     let none = Entry {
         row: row,
-        source: Source::of_row(0),
+        source: Source::from(0),
     };
     let mut l = [none; model::ROWS];
     for i in 0..model::ROWS {

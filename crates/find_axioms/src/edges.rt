@@ -76,13 +76,13 @@ pub fn edge_number(t: &Run, n: usize, src: &[u16], x: usize, y: usize, w: &[u64]
     let order = follows_at(t, n, x, y, w);
     let source = reads_from_at(t, n, src, x, y);
     let reader = from_reads_at(t, n, src, x, y);
-    pick::number(
+    pick::either(
         location,
         1,
-        pick::number(
+        pick::either(
             order,
             2,
-            pick::number(source, 3, pick::number(reader, 4, 0)),
+            pick::either(source, 3, pick::either(reader, 4, 0)),
         ),
     )
 }

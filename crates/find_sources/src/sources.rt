@@ -28,7 +28,7 @@ fn is_broken(t: &Run, n: usize, i: usize, s: u16) -> bool
     ensures { result ≡ broken_by (table_in t.now n) i s }
 {
     let r = run::row(t, i as u16);
-    let own = Source::of_row(s);
+    let own = Source::from(s);
     door_rows::kinds::reads(r)
         & !door_admit::table_faults::source_fits(run::rows_of(t), n as u16, false, i as u16, own)
 }

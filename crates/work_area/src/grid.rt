@@ -14,27 +14,43 @@ pub type Rows = Grid<{ super::GRID }>;
 
 pub type Moments = Grid<{ super::MOMENTS }>;
 
-pub const MUTUAL: Rows = Grid { base: super::MUTUAL };
+pub const MUTUAL: Rows = Grid {
+    base: super::MUTUAL,
+};
 
-pub const SEQUENCE: Rows = Grid { base: super::SEQUENCE };
+pub const SEQUENCE: Rows = Grid {
+    base: super::SEQUENCE,
+};
 
 pub const SYNC: Rows = Grid { base: super::SYNC };
 
-pub const HAPPENS: Moments = Grid { base: super::HAPPENS };
+pub const HAPPENS: Moments = Grid {
+    base: super::HAPPENS,
+};
 
 pub const STEP: Moments = Grid { base: super::STEP };
 
-pub const HOSTED: Rows = Grid { base: super::HOSTED };
+pub const HOSTED: Rows = Grid {
+    base: super::HOSTED,
+};
 
-pub const SYSTEM: Rows = Grid { base: super::SYSTEM };
+pub const SYSTEM: Rows = Grid {
+    base: super::SYSTEM,
+};
 
 pub const MET: Rows = Grid { base: super::MET };
 
-pub const REACHED: Rows = Grid { base: super::REACHED };
+pub const REACHED: Rows = Grid {
+    base: super::REACHED,
+};
 
-pub const REACH_OUT: Rows = Grid { base: super::REACH_OUT };
+pub const REACH_OUT: Rows = Grid {
+    base: super::REACH_OUT,
+};
 
-pub const REACH_IN: Rows = Grid { base: super::REACH_IN };
+pub const REACH_IN: Rows = Grid {
+    base: super::REACH_IN,
+};
 
 pub const EDGE: Rows = Grid { base: super::EDGE };
 

@@ -6,7 +6,7 @@ use Rattle.finite.specs.Below.{least}
 use Rattle.bits.specs.Matrix.{rel}
 use Rattle.work_walks.specs.Layers.{back}
 use Rattle.work_walks.proofs.Rounds.{Rounds}
-use Rattle.work_walks.proofs.fill_until.Given as goal
+use Rattle.work_walks.proofs.Walks.fill_until.Given as goal
 
 abbrev pub invariant-loop-k : goal.invariant-loop-k
-invariant-loop-k l = (l.k ≤ l.n) × (length l.w ≡ length l.initial.w) × Rounds l.m.steps l.m.layers l.m.stride l.n l.x l.initial.w l.w l.k × (least l.k (back l.n (rel l.initial.w l.m.steps l.m.stride) l.x) ≡ l.k)
+invariant-loop-k g l = (l.k ≤ l.n) × (length l.w ≡ length l.initial.w) × Rounds l.self.steps l.self.layers g.row.STRIDE l.n l.x l.initial.w l.w l.k × (least l.k (back l.n (rel l.initial.w l.self.steps g.row.STRIDE) l.x) ≡ l.k)

@@ -110,7 +110,7 @@ pub fn fill_edges(t: &Run, n: usize, src: &[u16], w: &mut [u64])
     for x in 0..n {
         for y in 0..n {
             let b = edge_at(t, n, src, x, y, w);
-            work_area::grid::put_if(w, work_area::EDGE, x, y, b);
+            work_area::grid::EDGE.put_if(w, x, y, b);
         }
     }
 }

@@ -14,7 +14,7 @@ fn may_loop(w: &[u64], x: usize) -> bool
     requires { (x < ROWS) × (WORK ≤ length w.now) }
     ensures { Asked w.now x result }
 {
-    let at = work_area::grid::at(work_area::EDGE, x);
+    let at = work_area::grid::EDGE.at(x);
     if grid::first_both(w, at, at) <= x {
         return true;
     }

@@ -179,7 +179,7 @@ pub fn fill_met(t: &Run, n: usize, w: &mut [u64])
     for m in 0..n {
         for y in 0..n {
             let b = met_at(t, n, m, y, w);
-            work_area::grid::put_if(w, work_area::MET, m, y, b);
+            work_area::grid::MET.put_if(w, m, y, b);
         }
     }
 }
@@ -220,7 +220,7 @@ pub fn fill_reached(t: &Run, n: usize, w: &mut [u64])
     for a in 0..n {
         for y in 0..n {
             let b = reached_at(t, n, a, y, w);
-            work_area::grid::put_if(w, work_area::REACHED, a, y, b);
+            work_area::grid::REACHED.put_if(w, a, y, b);
         }
     }
 }

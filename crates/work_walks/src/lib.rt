@@ -54,7 +54,8 @@ impl<const STRIDE: usize> Walks<STRIDE> {
     // Ruled out: one that leaves old bits in the layers; one that begins with x in layer 1; one that goes along the steps from x.
     pub fn fill_layers(self, w: &mut [u64], n: usize, x: usize)
         requires { Laid self.steps self.layers STRIDE n (length w.old) × (x < n) }
-        ensures { Layers self.entry.steps self.entry.layers STRIDE n x w.new × Within self.entry.layers (self.entry.layers + n * STRIDE + STRIDE) w.old w.new }
+        ensures { let m = self.entry in
+            Layers m.steps m.layers STRIDE n x w.new × Within m.layers (m.layers + n * STRIDE + STRIDE) w.old w.new }
     {
         let layers = self.layers;
         bits::clear(w, layers, layers + n * STRIDE + STRIDE);
@@ -82,11 +83,13 @@ impl<const STRIDE: usize> Walks<STRIDE> {
         n
     }
 
-    // The layers up to the first that has x again, by a way of one step at least: gives the least j for which x is in layer j + 1; n where there is none.
+    // The layers up to the first that has x again, by a way of one step at least: gives the least j for which x is in layer j + 1; n where
+    // there is none.
     // Ruled out: one that finds x in layer 0; one that stops before the layer that has x again is made.
     pub fn fill_until(self, w: &mut [u64], n: usize, x: usize) -> usize
         requires { Laid self.steps self.layers STRIDE n (length w.old) × (x < n) }
-        ensures { Returns self.entry.steps self.entry.layers STRIDE n x result w.new × Within self.entry.layers (self.entry.layers + n * STRIDE + STRIDE) w.old w.new }
+        ensures { let m = self.entry in
+            Returns m.steps m.layers STRIDE n x result w.new × Within m.layers (m.layers + n * STRIDE + STRIDE) w.old w.new }
     {
         let layers = self.layers;
         bits::clear(w, layers, layers + n * STRIDE + STRIDE);

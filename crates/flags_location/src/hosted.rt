@@ -69,7 +69,7 @@ fn hosted_at(t: &Run, n: usize, x: usize, y: usize, w: &[u64]) -> bool
     if !pairs::may_share(x, y, r, q) {
         return false;
     }
-    let s = domains::grid_bit(w, work_area::SYSTEM, x, y);
+    let s = domains::grid_bit(w, work_area::grid::SYSTEM, x, y);
     if l4(r, s) {
         return true;
     }

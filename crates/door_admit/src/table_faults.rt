@@ -55,9 +55,7 @@ fn any_other_class(rows: &[u8], i: u16, r: Row) -> bool
     requires { (r ≡ row_of rows.now i) × (any_below i (class_taken (decode rows.now [] OFF 0)) ≡ false) }
     ensures { result ≡ any_below i (other_class_at (decode rows.now [] OFF 0) i) }
 {
-    let mut j = i;
-    while 0 < j {
-        j = j - 1;
+    for j in (0..i).rev() {
         if is_of_reference(rows, r.reference, j) {
             return bytes::read_class(rows, j) != r.class;
         }

@@ -27,9 +27,7 @@ pub fn mark_rows(w: &mut [u64], n: usize)
     requires { (n ≤ ROWS) × (WORK ≤ length w.old) }
     ensures { Marked n w.old w.new }
 {
-    let mut x = n;
-    while 0 < x {
-        x -= 1;
+    for x in (0..n).rev() {
         let b = may_loop(w, x);
         bits::put_if(w, MARKS * 64 + x, b);
     }

@@ -18,9 +18,7 @@ fn clear_numbers(c: &mut [u16])
     requires { CYCLE ≤ length c.old }
     ensures { c.new ≡ zeros c.old 0 CYCLE }
 {
-    for i in 0..model::CYCLE {
-        c[i] = 0;
-    }
+    c[..model::CYCLE].fill(0);
 }
 
 fn wide(x: u16) -> usize

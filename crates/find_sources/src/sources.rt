@@ -39,8 +39,8 @@ pub fn sources_fit(t: &Run, n: usize, src: &[u16]) -> bool
     requires { (n ≤ ROWS) × (n ≤ length src.now) }
     ensures { result ≡ sources_fit (table_in t.now n) (λ i. get_or src.now i 0) }
 {
-    for i in 0..n {
-        if is_broken(t, n, i, src[i]) {
+    for (i, s) in src[..n].iter().enumerate() {
+        if is_broken(t, n, i, *s) {
             return false;
         }
     }

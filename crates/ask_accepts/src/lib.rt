@@ -91,11 +91,11 @@ fn is_chain(t: &Run, n: usize, s: u8, e: Ends, steps: &[u16]) -> bool
     ensures { result ≡ leads_to (table_in t.now n) s e.first e.second steps.now }
 {
     let mut m = e.first;
-    for i in 0..steps.len() {
-        if !is_step(t, n, s, m, steps[i]) {
+    for x in steps {
+        if !is_step(t, n, s, m, *x) {
             return false;
         }
-        m = steps[i] % model::CASE;
+        m = *x % model::CASE;
     }
     m == e.second
 }

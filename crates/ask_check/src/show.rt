@@ -18,9 +18,7 @@ fn clear_numbers(c: &mut [u16])
     requires { CYCLE ≤ length c.old }
     ensures { c.new ≡ zeros c.old 0 CYCLE }
 {
-    for i in 0..model::CYCLE {
-        c[i] = 0;
-    }
+    c[..model::CYCLE].fill(0);
 }
 
 fn wide(x: u16) -> usize
@@ -60,7 +58,7 @@ pub fn show_cycle(t: &Run, n: usize, src: &[u16], x: usize, w: &mut [u64], c: &m
         × (c.new ≡ cycle_after (cyclic (cycle_rows t (source_in src.now)) (cycle_edges t (source_in src.now))) c.old)
         × Within LAYERS LAYERS_END w.old w.new }
 {
-    let size = work_walks::grid::fill_until(w, n, x) + 1;
+    let size = work_walks::EDGES.fill_until(w, n, x) + 1;
     clear_numbers(c);
     find_cycle::write_rows(w, n, x, size, c);
     write_edges(t, n, src, x, size, w, c);

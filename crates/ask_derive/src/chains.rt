@@ -35,7 +35,7 @@ pub fn find_set(t: &Run, n: usize, first: usize, second: usize, w: &mut [u64]) -
 {
     for c in 0..cases::CLASS_SETS {
         layers::make_layers(t, n, c + 1, second, w);
-        let j = work_walks::moments::layer_of(w, 3 * n, first);
+        let j = work_walks::STEPS.layer_of(w, 3 * n, first);
         if j < 3 * n {
             return c;
         }
@@ -76,7 +76,7 @@ fn step_number(t: &Run, n: usize, s: u8, m: usize, k: usize, w: &[u64]) -> u16
     requires { TwoOf (3 * n) m k × (WORK ≤ length w.now) × Synced (table_in t.now n) n w.now }
     ensures { result ≡ step_number (table_in t.now n) s m k }
 {
-    let b = work_area::grid::get(w, work_area::SYNC, m / 3, k / 3);
+    let b = work_area::grid::SYNC.get(w, m / 3, k / 3);
     let d = case_at(t, n, s, m, k, b);
     model::CASE * d + (k as u16)
 }
@@ -100,7 +100,7 @@ pub fn write_steps(
 {
     let mut z = first;
     for i in 0..size {
-        let y = work_walks::moments::next(w, 3 * n, size - i - 1, z);
+        let y = work_walks::STEPS.next(w, 3 * n, size - i - 1, z);
         c[i] = step_number(t, n, s, z, y, w);
         z = y;
     }

@@ -15,5 +15,5 @@ pub fn make_layers(t: &Run, n: usize, s: u8, x: usize, w: &mut [u64])
     ensures { MadeLayered (table_in t.now n) n s x w.old w.new }
 {
     flags_order::steps::fill_step(t, n, s, w);
-    work_walks::moments::fill_layers(w, 3 * n, x);
+    work_walks::STEPS.fill_layers(w, 3 * n, x);
 }

@@ -53,7 +53,7 @@ fn derive_moments(t: &Run, n: usize, e: Ends, w: &mut [u64], c: &mut [u16]) -> D
     if run_rows::cases::CLASS_SETS <= set {
         return DeriveAnswer::NotBefore;
     }
-    let size = work_walks::moments::layer_of(w, 3 * n, first) + 1;
+    let size = work_walks::STEPS.layer_of(w, 3 * n, first) + 1;
     chains::write_steps(t, n, set + 1, first, second, size, w, c);
     DeriveAnswer::Chain {
         classes: set + 1,

@@ -11,9 +11,7 @@ pub fn write_sources(list: &[u16], n: usize, out: &mut [u16])
     requires { (n ≤ length list.now) × (n ≤ length out.old) }
     ensures { Written list.now n out.old out.new }
 {
-    for i in 0..n {
-        out[i] = list[i];
-    }
+    out[..n].copy_from_slice(&list[..n]);
 }
 
 // What the search for a race found, as an answer; None where there is none.

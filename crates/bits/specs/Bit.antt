@@ -8,6 +8,9 @@ use Rattle.std.specs.Int.Bits.{bit_or}
 use Rattle.std.proofs.lemmas.Nat.{or_shr, or_mod, shl-shr}
 use Rattle.std.proofs.Math.Seq.{set_out}
 use Rattle.std.proofs.Math.Pow.{pow-lt}
+use Rattle.std.proofs.lemmas.List.{ext_get_or, places}
+use borrow.Rule.Slice.PartMut.{put_mid}
+use lib.ListN.{replicate}
 use Rattle.finite.specs.Logic.{◌or◌, or_right, or_off}
 
 -- ---- definitions
@@ -168,13 +171,17 @@ pub bit_zeros_in : (w : List ℕ) (from n k : ℕ) → from + n ≤ length w →
 unfolding bit
 bit_zeros_in w from n k l a b = ap (λ (x : ℕ). bit_of x (k % 64)) (zeros_in w from n (k / 64) l (omega arith) (omega arith)) ∙ bit_of_zero (k % 64)
 
--- a turn of the loop that clears
-pub zeros_more : (w₀ w : List ℕ) (from i : ℕ) → from ≤ i → w ≡ zeros w₀ from (i - from) → set w i 0 ≡ zeros w₀ from (i + 1 - from)
-unfolding zeros
-zeros_more w₀ w from i h e =
-    let a : i + 1 - from ≡ suc (i - from) = omega arith in
-    let b : from + (i - from) ≡ i = omega arith in
-    rw (e, a, b)
+-- words that are cleared all at once
+pub zeros_filled : (w : List ℕ) (from n : ℕ) → from + n ≤ length w → put_mid from n w (replicate n 0) ≡ zeros w from n
+zeros_filled w from n l = ext_get_or 0 _ _ same (λ k h. go k (dec_lt k from) (dec_lt k (from + n)))
+  where
+    same : length (put_mid from n w (replicate n 0)) ≡ length (zeros w from n)
+    same = rw length_zeros (grind (arith, places))
+
+    go : (k : ℕ) → Dec (k < from) → Dec (k < from + n) → get_or (put_mid from n w (replicate n 0)) k 0 ≡ get_or (zeros w from n) k 0
+    go k (yes a) b = rw (zeros_out w from n k (λ g. absurd (omega arith))) (grind (arith, places))
+    go k (no a) (yes b) = rw (zeros_in w from n k l (omega arith) b) (grind (arith, places))
+    go k (no a) (no b) = rw (zeros_out w from n k (λ g. omega arith)) (grind (arith, places))
 
 -- ---- laws: words that are joined
 

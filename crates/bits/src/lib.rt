@@ -41,9 +41,7 @@ pub fn clear(w: &mut [u64], from: usize, to: usize)
     requires { (from ≤ to) × (to ≤ length w.old) }
     ensures { w.new ≡ zeros w.old from (to - from) }
 {
-    for i in from..to {
-        w[i] = 0;
-    }
+    w[from..to].fill(0);
 }
 
 // Each of n words from dst becomes its or with the word as far from src. Where src lies first the two runs are apart, so that no

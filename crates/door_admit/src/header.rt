@@ -108,10 +108,10 @@ pub fn hosts_fault(p: Places, agents: u8, d: &[u8], rows: u8) -> u8
 pub fn shape_fault(s: &[u8]) -> u8
     ensures { result ≡ shape_fault s.now }
 {
-    let sized = pick::byte(length_fits(s), 0, 4);
-    let limited = pick::byte(limits_fit(s), sized, 3);
-    let marked = pick::byte(version_fits(s), limited, 2);
-    pick::byte(bytes::HEADER <= s.len(), marked, 1)
+    let sized = pick::either(length_fits(s), 0, 4);
+    let limited = pick::either(limits_fit(s), sized, 3);
+    let marked = pick::either(version_fits(s), limited, 2);
+    pick::either(bytes::HEADER <= s.len(), marked, 1)
 }
 
 // Refusals 1 to 4 and 16 to 18, or 0.

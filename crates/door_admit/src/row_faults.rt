@@ -25,7 +25,7 @@ pub fn codes_fit(hosts: bool, agents: u8, r: Row) -> bool
         & (r.scope <= scopes::DEVICE)
         & (r.classes <= CLASSES)
         & (r.flags <= FLAGS)
-        & (r.class <= pick::byte(kinds::is_control(r), scopes::DEVICE, CLASS))
+        & (r.class <= pick::either(kinds::is_control(r), scopes::DEVICE, CLASS))
 }
 
 // 19: a host agent has plain rows, a queue agent operations, a shader agent the rest.
@@ -33,8 +33,8 @@ pub fn agent_fits(kind: u16, r: Row) -> bool
     ensures { result ≡ agent_fits kind r }
 {
     let operation = kinds::is_operation(r);
-    let other = pick::flag(kind == scopes::QUEUE, operation, !operation);
-    pick::flag(kind == scopes::HOST, kinds::is_plain(r), other)
+    let other = pick::either(kind == scopes::QUEUE, operation, !operation);
+    pick::either(kind == scopes::HOST, kinds::is_plain(r), other)
 }
 
 // 20: an operation has zeros in bytes 2 to 11 and as its rank, and no source.
@@ -59,7 +59,7 @@ pub fn plain_fits(r: Row) -> bool
 {
     let available = kinds::makes_available(r);
     let visible = kinds::makes_visible(r);
-    let scoped = pick::flag(
+    let scoped = pick::either(
         available | visible,
         kinds::is_non_private(r),
         r.scope == scopes::INVOCATION,
@@ -152,12 +152,12 @@ pub fn form_fault(r: Row, source: Source) -> u8
     ensures { result ≡ form_fault r source.0 }
 {
     if kinds::is_operation(r) {
-        return pick::byte(operation_fits(r, source), 0, 20);
+        return pick::either(operation_fits(r, source), 0, 20);
     }
     if !kind_fits(r, source) {
         return 6;
     }
-    pick::byte(extent_fits(r), 0, 7)
+    pick::either(extent_fits(r), 0, 7)
 }
 
 // Refusals 5, 19, 6 or 20, 7 of a row, or 0. Places are lent, since all of them by value would be copied.

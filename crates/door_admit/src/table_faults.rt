@@ -55,9 +55,7 @@ fn any_other_class(rows: &[u8], i: u16, r: Row) -> bool
     requires { (r ≡ row_of rows.now i) × (any_below i (class_taken (decode rows.now [] OFF 0)) ≡ false) }
     ensures { result ≡ any_below i (other_class_at (decode rows.now [] OFF 0) i) }
 {
-    let mut j = i;
-    while 0 < j {
-        j = j - 1;
+    for j in (0..i).rev() {
         if is_of_reference(rows, r.reference, j) {
             return bytes::read_class(rows, j) != r.class;
         }
@@ -298,11 +296,11 @@ pub fn table_fault(rows: &[u8], p: Places, counted: bool, n: u16, blanks: bool, 
     ensures { result ≡ table_fault blanks (decode rows.now p (ranks counted) n) (source_of rows.now) i }
 {
     let r = bytes::read_row(rows, i);
-    let run = pick::byte(is_unfit(rows, counted, i, r), 15, 0);
-    let instance = pick::byte(instance_broken(rows, p, i, r), 14, run);
-    let rank = pick::byte(rank_taken(rows, p, i, r), 10, instance);
-    let source = pick::byte(source_broken(rows, n, blanks, i, r), 9, rank);
-    pick::byte(class_taken(rows, i, r), 8, source)
+    let run = pick::either(is_unfit(rows, counted, i, r), 15, 0);
+    let instance = pick::either(instance_broken(rows, p, i, r), 14, run);
+    let rank = pick::either(rank_taken(rows, p, i, r), 10, instance);
+    let source = pick::either(source_broken(rows, n, blanks, i, r), 9, rank);
+    pick::either(class_taken(rows, i, r), 8, source)
 }
 
 // The first of n rows that has a refusal 8 to 10, 14 or 15; n where none has.

@@ -17,12 +17,6 @@ const DEPENDS_SIZE: usize = 258;
 
 const AREA: usize = 2048;
 
-fn at_most(size: usize, limit: usize) -> usize
-    ensures { result ≡ min size limit }
-{
-    if size < limit { size } else { limit }
-}
-
 // ---- a run, part by part
 
 // The header, with no chains yet: with host agents, so that each place has four numbers.
@@ -30,7 +24,7 @@ fn put_head(s: &[u8], t: &mut [u8])
     requires { HEADER ≤ length t.old }
     ensures { Put 0 (λ k. get_or (head_of s.now) k 0) HEADER t.old t.new }
 {
-    let counted = pick::byte(door_rows::scopes::is_counted(s), 1, 0);
+    let counted = pick::either(door_rows::scopes::is_counted(s), 1, 0);
     let head = [0, counted, 0, 0, bytes::HOSTS, bytes::agents_at(s), 0, 0];
     bytes::put(t, 0, &head, bytes::HEADER);
 }
@@ -54,7 +48,7 @@ fn put_places(s: &[u8], t: &mut [u8])
     ensures { Put HEADER (place_byte (has_hosts s.now) s.now) (place_count s.now) t.old t.new }
 {
     let hosts = bytes::has_hosts(s);
-    let n = at_most(bytes::agents_at(s) as usize, model::AGENTS) * 8;
+    let n = (bytes::agents_at(s) as usize).min(model::AGENTS) * 8;
     for k in 0..n {
         let b = place_byte(hosts, s, k);
         t[bytes::HEADER + k] = b;
@@ -68,8 +62,8 @@ fn put_rows(first: &[u8], second: &[u8], t: &mut [u8])
         (min (length (row_bytes first.now) + length second.now) AREA) t.old t.new }
 {
     let rows = bytes::row_bytes(first);
-    let head = at_most(rows.len(), AREA);
-    let end = at_most(rows.len() + second.len(), AREA);
+    let head = rows.len().min(AREA);
+    let end = (rows.len() + second.len()).min(AREA);
     bytes::put(t, run::ROWS_AT, rows, head);
     bytes::put(t, run::ROWS_AT + head, second, end - head);
 }
@@ -80,7 +74,7 @@ fn lay(first: &[u8], second: &[u8], t: &mut [u8])
     ensures { Laid 0 first.now second.now t.new }
 {
     let d = bytes::dependency_bytes(first);
-    let size = at_most(d.len(), DEPENDS_SIZE);
+    let size = d.len().min(DEPENDS_SIZE);
     put_head(first, t);
     put_places(first, t);
     bytes::put(t, run::DEPENDS, d, size);
@@ -133,6 +127,6 @@ pub fn enter(
     }
     lay(first, second, t);
     let a = admit(first, second, t, blanks);
-    t[2] = pick::byte(chains, 1, 0);
+    t[2] = pick::either(chains, 1, 0);
     a
 }

@@ -33,10 +33,10 @@ pub fn count_both(first: &[u8], second: &[u8]) -> u8
 pub fn pieces_fault(first: &[u8], second: &[u8]) -> u8
     ensures { result ≡ pieces_fault first.now second.now }
 {
-    let limited = pick::byte(rows_both(first, second) <= model::ROWS, 0, 3);
-    let whole = pick::byte(second.len() % bytes::ROW_BYTES == 0, limited, 40);
+    let limited = pick::either(rows_both(first, second) <= model::ROWS, 0, 3);
+    let whole = pick::either(second.len() % bytes::ROW_BYTES == 0, limited, 40);
     let fault = header::shape_fault(first);
-    pick::byte(fault == 0, whole, fault)
+    pick::either(fault == 0, whole, fault)
 }
 
 // Every refusal before 5, or 0. The dependencies stand in the first piece and may name rows of either.

@@ -59,24 +59,3 @@ after_none s at e h = rw (← e) (drop_of_length-le s h)
 pub after_rest : (s : List ℕ) (at : ℕ) → at ≡ rows_end s → take (length s - at) (drop at s) ≡ dependency_bytes s
 unfolding dependency_bytes
 after_rest s at e = let n = length-drop at s in rw (← e) (take_all _ (drop at s) (le_of_eq n))
-
--- ---- a loop that stores f i at i, counting up
-
-module _ {A : Type 0} (f : ℕ → A) where
-  pub tab_none : (l : List A) → take 0 l ≡ tabulate f 0
-  unfolding tabulate
-  tab_none [] = refl
-  tab_none (x ∷ l) = refl
-
-  pub tab_more : (l : List A) (i : ℕ) (v : A) → i < length l → take i l ≡ tabulate f i → v ≡ f i → take (i + 1) (set l i v) ≡ tabulate f (i + 1)
-  unfolding tabulate
-  tab_more l i v inside stored value_is = rw add-one (take-suc-set l i v inside ∙ cc)
-
-  pub tab_all : (l : List A) (i : ℕ) → length l ≡ i → take i l ≡ tabulate f i → l ≡ tabulate f i
-  tab_all l i h e = sym (take_all i l (le_of_eq h)) ∙ e
-
--- ---- a loop that copies
-
-pub paste_more : (d : List ℕ) (at : ℕ) (s u : List ℕ) (k : ℕ) → at + k < length d → k < length s → u ≡ paste d at s k
-    → set u (at + k) (get_or s k 0) ≡ paste d at s (k + 1)
-paste_more d at s u k hd hs e = rw (e, add-one k) (paste-suc d at s k 0 hd hs)

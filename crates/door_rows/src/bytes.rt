@@ -27,7 +27,7 @@ pub const ROW_BYTES: usize = 16;
 pub fn byte_at(s: &[u8], at: usize) -> u8
     ensures { result ≡ slice_index s.now at }
 {
-    if at < s.len() { s[at] } else { 0 }
+    s.get(at).copied().unwrap_or(0)
 }
 
 // The two bytes at a place, big-endian. Past the end it asks for no next place, which might not be a number.
@@ -129,11 +129,7 @@ pub fn dependency_to(d: &[u8], k: u16) -> u16
 pub fn read_ends(d: &[u8], at: u8) -> [u16; 64]
     ensures { result ≡ tabulate (dependency_end d.now at) DEPENDENCIES }
 {
-    let mut ends = [0u16; model::DEPENDENCIES];
-    for k in 0..model::DEPENDENCIES {
-        ends[k] = pair_at(d, (at as usize) + k * DEPENDENCY_BYTES);
-    }
-    ends
+    std::array::from_fn(|k| pair_at(d, (at as usize) + k * DEPENDENCY_BYTES))
 }
 
 // Byte k of row i, in the bytes of the rows alone.
@@ -265,7 +261,7 @@ pub fn read_classes(rows: &[u8], i: u16) -> u8
 pub fn read_source(rows: &[u8], i: u16) -> Source
     ensures { result.0 ≡ source_of rows.now i }
 {
-    Source::of_row(row_pair(rows, i, 12))
+    Source::from(row_pair(rows, i, 12))
 }
 
 // An atomic row's source; the initial value for every other row.
@@ -279,12 +275,10 @@ pub fn atomic_source(rows: &[u8], i: u16) -> Source
     Source::INITIAL
 }
 
-// Puts the first n bytes of s into t, from byte `at` on. No test in the loop, so that it can compile to a block copy.
+// Puts the first n bytes of s into t, from byte `at` on.
 pub fn put(t: &mut [u8], at: usize, s: &[u8], n: usize)
     requires { (at + n ≤ length t.old) × (n ≤ length s.now) }
     ensures { t.new ≡ paste t.old at s.now n }
 {
-    for k in 0..n {
-        t[at + k] = s[k];
-    }
+    t[at..at + n].copy_from_slice(&s[..n]);
 }

@@ -1,6 +1,7 @@
 // Agents' places (a term of our own), the scopes that two agents share, and mutually-ordered rows.
 ghost use Rattle.std.specs.Prelude.{◌≡◌, ℕ, ◌+◌, ◌*◌, ◌<◌, false, List, [], slice_index, slice_index_or};
 ghost use Rattle.model.specs.Header.{shader_place_at, any_place_at, slot_at, places_of};
+ghost use Rattle.model.specs.Limits.{AGENTS};
 ghost use Rattle.model.specs.Scope.{agent_kind, host, shares, together, same_location, mutual_rows, age, later, later_writer};
 ghost use Rattle.model.specs.Table.{mode_of, row_of};
 ghost use Rattle.door_rows.specs.Places.{IsPlace};
@@ -71,13 +72,10 @@ pub fn read_place(s: &[u8], a: u8) -> [u16; 4]
 pub fn read_places(s: &[u8]) -> Places
     ensures { result ≡ places_of s.now }
 {
-    let none = [0u16; 4];
-    let mut p = [none; model::AGENTS];
-    for a in 0..model::AGENTS {
-        let place = read_place(s, a as u8);
-        p[a] = place;
-    }
-    p
+    std::array::from_fn(|a: usize| -> [u16; 4]
+        requires { a < AGENTS }
+        ensures { result ≡ slot_at s.entry.now a }
+    { read_place(s, a as u8) })
 }
 
 // The first version, and the first with counted ranks.

@@ -4,6 +4,8 @@ use mathlib.Core.Bool.{Bool, true, false}
 use mathlib.Core.List.{List, [], ◌∷◌, ◌++◌}
 use Prim.Native.Nat.{ℕ, ◌+◌, ◌-◌, ◌*◌, ◌/◌, ◌%◌, ◌≤◌, ◌<◌}
 use native.Mathlib.Omega.{arith}
+use native.Mathlib.Decide.{dec_lt}
+use Rattle.std.specs.Prelude.{min, cond, ltb}
 use lib.ListN.{length, get_or, set, take, drop, length-take, get_or-eq_default}
 use lib.Seq.{paste, length-paste, take-paste, take_all, ext_get_or, get_or-take}
 use borrow.Author.Tests.{eq-eqb, ne_eqb, le-leb, lt-leb, lt-ltb, le-ltb, leb-true}
@@ -25,7 +27,7 @@ use Rattle.door_write.specs.Encode.{half, with_hosts, places_size, dependencies_
 use Rattle.door_write.specs.Encode.{nothing, entry_at, entry_byte, dependency_number, dependency_byte, places_part, rows_part, dependencies_part, encode}
 use Rattle.door_write.specs.Encode.{entries_in, entries_of, dependencies_of}
 use Rattle.door_write.specs.Answer.{values_fault, room_answer, write_answer, buffer_after}
-use Rattle.door_write.specs.Parts.{PLACE_NUMBERS, agents_in, places_in, rows_in, dependencies_in, parts_answer, parts_table}
+use Rattle.door_write.specs.Parts.{PLACE_NUMBERS, capped, agents_in, places_in, rows_in, dependencies_in, parts_answer, parts_table}
 use Rattle.door_write.specs.declared.ReadAnswer.{ReadAnswer}
 use Rattle.door_write.specs.declared.ReadAnswer.TheVariants as Given
 use Rattle.door_write.specs.Read.{place_number_at, place_numbers, end_of, end_numbers, fronted, lent_fit, read_answer, places_after, rows_after, dependencies_after}
@@ -59,11 +61,7 @@ pub number_second : (d : Dependencies) (k : ℕ) → 2 ≤ k → 2 ≤ (k - 2) %
 unfolding dependency_number
 number_second d k h m = rw (le-ltb k 2 h, le-ltb ((k - 2) % DEPENDENCY_BYTES) 2 m) refl
 
--- ---- the bytes that a loop stores
-
-pub byte_place : (hosts : Bool) (p : List (List ℕ)) (k : ℕ) (n : ℕ) {v : ℕ} → n ≡ place_number hosts p k → v ≡ half n k → v ≡ place_byte hosts p k
-unfolding place_byte
-byte_place hosts p k n e h = rw (← e) h
+-- ---- the bytes that are made one by one
 
 pub byte_dependency : (d : Dependencies) (k n : ℕ) {v : ℕ} → n ≡ dependency_number d k → v ≡ half n k → v ≡ dependency_byte d k
 unfolding dependency_byte
@@ -217,6 +215,14 @@ module _ (w : WriteAnswer) (a : Admission) (size room : ℕ) (e : w ≡ when_adm
     long_is h = open_is ∙ rw (le-leb size room h) refl
 
 -- ---- values out of lent parts
+
+pub min_capped : (n most : ℕ) → min n most ≡ capped n most
+unfolding capped
+min_capped n most = go (dec_lt n most)
+  where
+    go : Dec (n < most) → min n most ≡ cond (ltb n most) n most
+    go (yes l) = rw (lt-ltb n most l) (omega arith)
+    go (no l) = rw (le-ltb n most (omega arith)) (omega arith)
 
 module _ (version : ℕ) (P B Q : List ℕ) {a : ℕ} {p : List (List ℕ)} {n : ℕ} {l : List Entry} {d : Dependencies} (agents_are : a ≡ agents_in P)
     (places_are : p ≡ places_in P) (rows_are : n ≡ rows_in B) (entries_are : l ≡ entries_in B)

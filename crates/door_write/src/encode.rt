@@ -104,12 +104,7 @@ fn place_number(hosts: bool, p: Places, k: usize) -> u16
 fn place_bytes(hosts: bool, p: Places) -> [u8; PLACES]
     ensures { result ≡ tabulate (place_byte hosts p) 256 }
 {
-    let mut b = [0u8; PLACES];
-    for k in 0..PLACES {
-        let v = half(place_number(hosts, p, k), k);
-        b[k] = v;
-    }
-    b
+    std::array::from_fn(|k| half(place_number(hosts, p, k), k))
 }
 
 // A row as its sixteen bytes.
@@ -140,14 +135,13 @@ pub fn row_bytes(r: Row, s: Source) -> [u8; 16]
 pub fn entry_bytes(entries: [Entry; 128]) -> [u8; ROWS]
     ensures { result ≡ tabulate (entry_byte entries) 2048 }
 {
-    let mut b = [0u8; ROWS];
-    for k in 0..ROWS {
+    std::array::from_fn(|k: usize| -> u8
+        requires { k < 2048 }
+        ensures { result ≡ entry_byte entries k }
+    {
         let e = entries[k / bytes::ROW_BYTES];
-        let row = row_bytes(e.row, e.source);
-        let v = row[k % bytes::ROW_BYTES];
-        b[k] = v;
-    }
-    b
+        row_bytes(e.row, e.source)[k % bytes::ROW_BYTES]
+    })
 }
 
 // The number that byte k of the dependencies' bytes belongs to.
@@ -168,12 +162,10 @@ fn dependency_number(d: Dependencies, k: usize) -> u16
 fn dependency_bytes(d: Dependencies) -> [u8; AFTER]
     ensures { result ≡ tabulate (dependency_byte d) 258 }
 {
-    let mut b = [0u8; AFTER];
-    for k in 0..AFTER {
-        let v = half(dependency_number(d, k), k);
-        b[k] = v;
-    }
-    b
+    std::array::from_fn(|k: usize| -> u8
+        requires { k < 258 }
+        ensures { result ≡ dependency_byte d k }
+    { half(dependency_number(d, k), k) })
 }
 
 // ---- the table

@@ -102,10 +102,10 @@ fn dependencies_fit(version: u8, n: u16) -> bool
 fn values_fault(version: u8, agents: u8, p: Places, rows: u8, n: u16) -> u8
     ensures { result ≡ values_fault version agents p rows n }
 {
-    let few = pick::byte(dependencies_fit(version, n), 0, 17);
-    let numbered = pick::byte(!any_number_over(version, p, agents), few, 16);
-    let counted = pick::byte(counts_fit(agents, rows), numbered, 3);
-    pick::byte(version_known(version), counted, 2)
+    let few = pick::either(dependencies_fit(version, n), 0, 17);
+    let numbered = pick::either(!any_number_over(version, p, agents), few, 16);
+    let counted = pick::either(counts_fit(agents, rows), numbered, 3);
+    pick::either(version_known(version), counted, 2)
 }
 
 // ---- writing

@@ -2,7 +2,7 @@
 // end is 0.
 ghost use Rattle.std.specs.Prelude.{◌≡◌, ◌<◌, ◌≤◌, length, get_or};
 ghost use Rattle.finite.specs.Lists.{tabulate};
-ghost use Rattle.model.specs.Limits.{DEPENDENCIES};
+ghost use Rattle.model.specs.Limits.{AGENTS, DEPENDENCIES};
 ghost use Rattle.door_write.specs.Answer.{buffer_after};
 ghost use Rattle.door_write.specs.Parts.{capped, agents_in, place_in, places_in, rows_in, end_in, dependencies_in, parts_answer, parts_table};
 
@@ -12,22 +12,16 @@ use model::Places;
 
 pub const PLACE_NUMBERS: usize = 4;
 
-fn capped(n: usize, most: usize) -> usize
-    ensures { (result ≡ capped n most) × (result ≤ most) }
-{
-    if n < most { n } else { most }
-}
-
 fn number_at(q: &[u16], k: usize) -> u16
     ensures { result ≡ get_or q.now k 0 }
 {
-    if k < q.len() { q[k] } else { 0 }
+    q.get(k).copied().unwrap_or(0)
 }
 
 fn agents_in(q: &[u16]) -> u8
     ensures { result ≡ agents_in q.now }
 {
-    capped(q.len() / PLACE_NUMBERS, 255) as u8
+    (q.len() / PLACE_NUMBERS).min(255) as u8
 }
 
 fn place_in(q: &[u16], a: u8) -> [u16; 4]
@@ -46,37 +40,30 @@ fn place_in(q: &[u16], a: u8) -> [u16; 4]
 fn places_in(q: &[u16]) -> Places
     ensures { result ≡ places_in q.now }
 {
-    let none = [0u16; 4];
-    let mut p = [none; model::AGENTS];
-    for a in 0..model::AGENTS {
-        let place = place_in(q, a as u8);
-        p[a] = place;
-    }
-    p
+    std::array::from_fn(|a: usize| -> [u16; 4]
+        requires { a < AGENTS }
+        ensures { result ≡ place_in q.entry.now a }
+    { place_in(q, a as u8) })
 }
 
 fn rows_in(b: &[u8]) -> u8
     ensures { result ≡ rows_in b.now }
 {
-    capped(b.len() / bytes::ROW_BYTES, 255) as u8
+    (b.len() / bytes::ROW_BYTES).min(255) as u8
 }
 
 // The first or second row of each dependency, by 0 or 1.
 fn ends_in(q: &[u16], at: u8) -> [u16; 64]
     ensures { result ≡ tabulate (end_in q.now at) DEPENDENCIES }
 {
-    let mut ends = [0u16; model::DEPENDENCIES];
-    for k in 0..model::DEPENDENCIES {
-        ends[k] = number_at(q, k * 2 + (at as usize));
-    }
-    ends
+    std::array::from_fn(|k| number_at(q, k * 2 + (at as usize)))
 }
 
 fn dependencies_in(q: &[u16]) -> Dependencies
     ensures { result ≡ dependencies_in q.now }
 {
     Dependencies {
-        count: capped(q.len() / 2, 65535) as u16,
+        count: (q.len() / 2).min(65535) as u16,
         first: ends_in(q, 0),
         second: ends_in(q, 1),
     }

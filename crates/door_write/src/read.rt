@@ -8,7 +8,7 @@ ghost use Rattle.door_write.specs.Read.{fronted, place_numbers, end_of, end_numb
 
 use crate::{Dependencies, Entry, ReadAnswer, encode, parts};
 use door_rows::{bytes, scopes};
-use model::{Admission, Places, Row, Source};
+use model::{Admission, Places};
 
 fn read_entry(rows: &[u8], i: u16) -> Entry
     ensures { result ≡ entry_of rows.now i }
@@ -23,29 +23,10 @@ fn read_entry(rows: &[u8], i: u16) -> Entry
 pub fn entries_in(rows: &[u8]) -> [Entry; 128]
     ensures { result ≡ entries_in rows.now }
 {
-    let row = Row {
-        kind: 0,
-        agent: 0,
-        order: 0,
-        scope: 0,
-        classes: 0,
-        flags: 0,
-        class: 0,
-        size: 0,
-        start: 0,
-        reference: 0,
-        rank: 0,
-    };
-    let none = Entry {
-        row: row,
-        source: Source::of_row(0),
-    };
-    let mut l = [none; model::ROWS];
-    for i in 0..model::ROWS {
-        let e = read_entry(rows, i as u16);
-        l[i] = e;
-    }
-    l
+    std::array::from_fn(|i: usize| -> Entry
+        requires { i < ROWS }
+        ensures { result ≡ entry_of rows.entry.now i }
+    { read_entry(rows, i as u16) })
 }
 
 pub fn read_entries(s: &[u8]) -> [Entry; 128]

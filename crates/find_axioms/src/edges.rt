@@ -76,13 +76,13 @@ pub fn edge_number(t: &Run, n: usize, src: &[u16], x: usize, y: usize, w: &[u64]
     let order = follows_at(t, n, x, y, w);
     let source = reads_from_at(t, n, src, x, y);
     let reader = from_reads_at(t, n, src, x, y);
-    pick::number(
+    pick::either(
         location,
         1,
-        pick::number(
+        pick::either(
             order,
             2,
-            pick::number(source, 3, pick::number(reader, 4, 0)),
+            pick::either(source, 3, pick::either(reader, 4, 0)),
         ),
     )
 }
@@ -110,7 +110,7 @@ pub fn fill_edges(t: &Run, n: usize, src: &[u16], w: &mut [u64])
     for x in 0..n {
         for y in 0..n {
             let b = edge_at(t, n, src, x, y, w);
-            work_area::grid::put_if(w, work_area::EDGE, x, y, b);
+            work_area::grid::EDGE.put_if(w, x, y, b);
         }
     }
 }

@@ -15,5 +15,5 @@ fn source_at(src: &[u16], y: usize) -> Source
     requires { y < length src.now }
     ensures { result.0 ≡ source_in src.now y }
 {
-    Source::of_row(src[y])
+    Source::from(src[y])
 }

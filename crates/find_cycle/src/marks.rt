@@ -14,7 +14,7 @@ fn may_loop(w: &[u64], x: usize) -> bool
     requires { (x < ROWS) × (WORK ≤ length w.now) }
     ensures { Asked w.now x result }
 {
-    let at = work_area::grid::at(work_area::EDGE, x);
+    let at = work_area::grid::EDGE.at(x);
     if grid::first_both(w, at, at) <= x {
         return true;
     }
@@ -27,9 +27,7 @@ pub fn mark_rows(w: &mut [u64], n: usize)
     requires { (n ≤ ROWS) × (WORK ≤ length w.old) }
     ensures { Marked n w.old w.new }
 {
-    let mut x = n;
-    while 0 < x {
-        x -= 1;
+    for x in (0..n).rev() {
         let b = may_loop(w, x);
         bits::put_if(w, MARKS * 64 + x, b);
     }

@@ -21,7 +21,7 @@ pub fn mutual_at(t: &Run, n: usize, x: usize, y: usize, w: &[u64]) -> bool
     requires { (x < n) × (y < n) × Ready (table_in t.now n) n w.now }
     ensures { result ≡ mutually (table_in t.now n) x y }
 {
-    work_area::grid::get(w, work_area::MUTUAL, x, y)
+    work_area::grid::MUTUAL.get(w, x, y)
 }
 
 // Whether x is location-ordered before y at byte b, for any b: no byte outside the bits of a pair is one of x's.

@@ -43,7 +43,7 @@ pub fn candidate_at(t: &Run, n: usize, y: usize, s: usize, w: &[u64]) -> bool
     requires { (y < n) × (s < n) × Ready (table_in t.now n) n w.now }
     ensures { result ≡ candidate (table_in t.now n) y s }
 {
-    let from = Source::of_row(s as u16);
+    let from = Source::from(s as u16);
     if !door_admit::table_faults::writer_fits(run::rows_of(t), n as u16, y as u16, from) {
         return false;
     }
@@ -85,7 +85,7 @@ fn chosen_at(t: &Run, n: usize, i: usize, s: u16, w: &[u64]) -> u16
     ensures { result ≡ chosen_from (table_in t.now n) i s }
 {
     let r = run::row(t, i as u16);
-    let own = Source::of_row(s);
+    let own = Source::from(s);
     if door_rows::kinds::is_plain_read(r) & own.is_blank() {
         return choice_of(t, n, i, w);
     }

@@ -28,7 +28,7 @@ fn is_broken(t: &Run, n: usize, i: usize, s: u16) -> bool
     ensures { result ≡ broken_by (table_in t.now n) i s }
 {
     let r = run::row(t, i as u16);
-    let own = Source::of_row(s);
+    let own = Source::from(s);
     door_rows::kinds::reads(r)
         & !door_admit::table_faults::source_fits(run::rows_of(t), n as u16, false, i as u16, own)
 }
@@ -39,8 +39,8 @@ pub fn sources_fit(t: &Run, n: usize, src: &[u16]) -> bool
     requires { (n ≤ ROWS) × (n ≤ length src.now) }
     ensures { result ≡ sources_fit (table_in t.now n) (λ i. get_or src.now i 0) }
 {
-    for i in 0..n {
-        if is_broken(t, n, i, src[i]) {
+    for (i, s) in src[..n].iter().enumerate() {
+        if is_broken(t, n, i, *s) {
             return false;
         }
     }

@@ -8,6 +8,9 @@ use Prim.Native.Nat.{ℕ, zero, suc, ◌+◌, ◌-◌, ◌≤◌, ◌<◌}
 use Rattle.std.proofs.Math.Decide.{dec_lt, ℕ_discrete}
 use Rattle.std.proofs.Math.ListN.{length, get_or-append}
 use Rattle.std.proofs.lemmas.List.{get_or_at}
+use Rattle.std.specs.Array.{IsFromFnResult, IsFromFnResultFrom}
+use denote.Param.Members.{Mut, Called}
+use mathlib.Core.Path.{subst}
 use Rattle.finite.specs.Below.{below_cases}
 
 -- ---- definitions
@@ -39,6 +42,27 @@ module _ {A : Type 0} (f : ℕ → A) where
     where
       len : length (tabulate f n) ≡ n
       len = length_tabulate n
+
+-- an array that calls made, each of which gives h of its number and leaves what the closure holds
+module _ {F A : Type 0} (g : Mut F (ℕ × Unit {0}) A) (f : F) (h : ℕ → A) (ys : List A) (d : A)
+    (call : (k : ℕ) (p q : F) (y : A) → p ≡ f → Called g p (k, tt) y q → (q ≡ f) × (y ≡ h k)) where
+  calls_at : (n i : ℕ) (p : F) → p ≡ f → IsFromFnResultFrom g p ys i n → (k : ℕ) → i ≤ k → k < i + n → get_or ys k d ≡ h k
+  calls_at zero i p e r k a b = absurd (omega arith)
+  calls_at (suc n) i p e (q, y, at, c, r) k a b = go (ℕ_discrete i k) (λ v. calls_at n (i + 1) q v r k)
+    where
+      now : (q ≡ f) × (y ≡ h i)
+      now = call i p q y e c
+
+      go : Dec (i ≡ k) → (q ≡ f → i + 1 ≤ k → k < i + 1 + n → get_or ys k d ≡ h k) → get_or ys k d ≡ h k
+      go (yes w) later = subst (λ (j : ℕ). get_or ys j d ≡ h j) w (at.1 d ∙ now.1)
+      go (no w) later = later now.0 (omega arith) (omega arith)
+
+  pub from_fn_tabulates : (n : ℕ) → IsFromFnResult g f ys n → ys ≡ tabulate h n
+  from_fn_tabulates n r =
+      ext_get_or d ys (tabulate h n) (r.long ∙ sym (length_tabulate h n))
+        (λ k l.
+        let b : k < n = rw r.long at l in
+        calls_at n 0 f refl r.each k (omega arith) (omega arith) ∙ sym (get_d_tabulate h n k d b))
 
 -- functions that agree below the bound
 pub tabulate_cong : {A : Type 0} (f g : ℕ → A) (n : ℕ) → ((k : ℕ) → k < n → f k ≡ g k) → tabulate f n ≡ tabulate g n

@@ -156,7 +156,7 @@ fn starts_with(t: &Run, n: usize, p: Asked, i: usize, v: usize, j: usize, w: &[u
     requires { record { element : Element t.now n p.x p.y i w.now; last : v < n; next : j < n; chains : (mode_in t.now).chains ≡ true } }
     ensures { result ≡ starts_with (table_in t.now n) p.x p.y i v j }
 {
-    if !work_area::grid::get(w, work_area::REACH_IN, j, v) {
+    if !work_area::grid::REACH_IN.get(w, j, v) {
         return false;
     }
     seen_at(t, n, p, i, j, w)
@@ -259,7 +259,7 @@ fn ends_with(t: &Run, n: usize, p: Asked, a: usize, c: usize, w: &[u64]) -> bool
     requires { record { pair : Pair t.now n p.x p.y w.now; row : a < n; next : c < n; chains : (mode_in t.now).chains ≡ true } }
     ensures { result ≡ ends_with (table_in t.now n) p.x p.y p.b a c }
 {
-    if !work_area::grid::get(w, work_area::REACH_OUT, a, c) {
+    if !work_area::grid::REACH_OUT.get(w, a, c) {
         return false;
     }
     ends_at(t, n, p, c, w)

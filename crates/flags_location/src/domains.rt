@@ -18,6 +18,7 @@ ghost use Rattle.flags_location.specs.Given.{Room, Given, GivenRows};
 
 use crate::happens;
 use run::Run;
+use work_area::grid::Rows;
 
 // ---- an agent's and an operation's domain
 
@@ -80,12 +81,12 @@ struct Way {
     pub y: usize,
 }
 
-// Whether rows i and j are in the grid at base.
-pub fn grid_bit(w: &[u64], base: usize, i: usize, j: usize) -> bool
-    requires { (base ≤ REACHED) × TwoOf ROWS i j × (WORK ≤ length w.now) }
-    ensures { result ≡ rel w.now base GRID i j }
+// Whether rows i and j are in the grid.
+pub fn grid_bit(w: &[u64], grid: Rows, i: usize, j: usize) -> bool
+    requires { (grid.base ≤ REACHED) × TwoOf ROWS i j × (WORK ≤ length w.now) }
+    ensures { result ≡ rel w.now grid.base GRID i j }
 {
-    work_area::grid::get(w, base, i, j)
+    grid.get(w, i, j)
 }
 
 // Whether row i is the operation of this kind, and row x happens before it.
@@ -123,24 +124,24 @@ fn is_seen(t: &Run, n: usize, p: Way, w: &[u64]) -> bool
     false
 }
 
-// Whether row i is the operation of this kind, after row x, and the grid at base has it with row y.
-fn onward_at(t: &Run, base: usize, p: Way, i: usize, w: &[u64]) -> bool
-    requires { (base ≤ REACHED) × ThreeOf ROWS p.x p.y i × (WORK ≤ length w.now) }
-    ensures { result ≡ onward_bits (rows_in t.now) w.now base p.kind p.x p.y i }
+// Whether row i is the operation of this kind, after row x, and the grid has it with row y.
+fn onward_at(t: &Run, grid: Rows, p: Way, i: usize, w: &[u64]) -> bool
+    requires { (grid.base ≤ REACHED) × ThreeOf ROWS p.x p.y i × (WORK ≤ length w.now) }
+    ensures { result ≡ onward_bits (rows_in t.now) w.now grid.base p.kind p.x p.y i }
 {
     if !thence_at(t, p.kind, p.x, i, w) {
         return false;
     }
-    grid_bit(w, base, i, p.y)
+    grid_bit(w, grid, i, p.y)
 }
 
 // Whether some row is.
-fn is_onward(t: &Run, n: usize, base: usize, p: Way, w: &[u64]) -> bool
-    requires { (base ≤ REACHED) × TwoOf n p.x p.y × Room n w.now }
-    ensures { result ≡ any_below n (onward_bits (rows_in t.now) w.now base p.kind p.x p.y) }
+fn is_onward(t: &Run, n: usize, grid: Rows, p: Way, w: &[u64]) -> bool
+    requires { (grid.base ≤ REACHED) × TwoOf n p.x p.y × Room n w.now }
+    ensures { result ≡ any_below n (onward_bits (rows_in t.now) w.now grid.base p.kind p.x p.y) }
 {
     for i in 0..n {
-        if onward_at(t, base, p, i, w) {
+        if onward_at(t, grid, p, i, w) {
             return true;
         }
     }
@@ -179,7 +180,7 @@ pub fn fill_met(t: &Run, n: usize, w: &mut [u64])
     for m in 0..n {
         for y in 0..n {
             let b = met_at(t, n, m, y, w);
-            work_area::grid::put_if(w, work_area::MET, m, y, b);
+            work_area::grid::MET.put_if(w, m, y, b);
         }
     }
 }
@@ -199,14 +200,14 @@ fn reached_at(t: &Run, n: usize, a: usize, y: usize, w: &[u64]) -> bool
     if (kind == door_rows::kinds::AVAILABLE_HOST)
         == door_rows::scopes::is_host(run::places(t), agent)
     {
-        return grid_bit(w, work_area::MET, a, y);
+        return grid_bit(w, work_area::grid::MET, a, y);
     }
     let p = Way {
         kind: out_of(kind),
         x: a,
         y: y,
     };
-    is_onward(t, n, work_area::MET, p, w)
+    is_onward(t, n, work_area::grid::MET, p, w)
 }
 
 // The same for every operation and row.
@@ -220,7 +221,7 @@ pub fn fill_reached(t: &Run, n: usize, w: &mut [u64])
     for a in 0..n {
         for y in 0..n {
             let b = reached_at(t, n, a, y, w);
-            work_area::grid::put_if(w, work_area::REACHED, a, y, b);
+            work_area::grid::REACHED.put_if(w, a, y, b);
         }
     }
 }
@@ -244,5 +245,5 @@ pub fn l5(t: &Run, n: usize, x: usize, y: usize, w: &[u64]) -> bool
         x: x,
         y: y,
     };
-    is_onward(t, n, work_area::REACHED, p, w)
+    is_onward(t, n, work_area::grid::REACHED, p, w)
 }

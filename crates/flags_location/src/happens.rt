@@ -9,5 +9,5 @@ pub fn happens_bit(w: &[u64], m: usize, k: usize) -> bool
     requires { (m < 3 * ROWS) × (k < 3 * ROWS) × (WORK ≤ length w.now) }
     ensures { result ≡ rel w.now HAPPENS MOMENTS m k }
 {
-    work_area::moments::get(w, work_area::HAPPENS, m, k)
+    work_area::grid::HAPPENS.get(w, m, k)
 }

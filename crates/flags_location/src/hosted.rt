@@ -34,7 +34,7 @@ fn put_dependency(t: &Run, n: usize, k: u16, w: &mut [u64])
     if n <= j {
         return;
     }
-    work_area::grid::put(w, work_area::SYSTEM, i, j);
+    work_area::grid::SYSTEM.put(w, i, j);
 }
 
 // Which rows system-synchronize, by one dependency or by several in a row.
@@ -47,7 +47,7 @@ fn make_system(t: &Run, n: usize, w: &mut [u64])
     for k in 0..run::dependencies(t) {
         put_dependency(t, n, k, w);
     }
-    work_area::grid::close(w, work_area::SYSTEM, n);
+    work_area::grid::SYSTEM.close(w, n);
 }
 
 // L4 of r, where s tells whether it system-synchronizes.
@@ -69,7 +69,7 @@ fn hosted_at(t: &Run, n: usize, x: usize, y: usize, w: &[u64]) -> bool
     if !pairs::may_share(x, y, r, q) {
         return false;
     }
-    let s = domains::grid_bit(w, work_area::SYSTEM, x, y);
+    let s = domains::grid_bit(w, work_area::grid::SYSTEM, x, y);
     if l4(r, s) {
         return true;
     }
@@ -86,7 +86,7 @@ fn fill_hosted(t: &Run, n: usize, w: &mut [u64])
     for x in 0..n {
         for y in 0..n {
             let b = hosted_at(t, n, x, y, w);
-            work_area::grid::put_if(w, work_area::HOSTED, x, y, b);
+            work_area::grid::HOSTED.put_if(w, x, y, b);
         }
     }
 }

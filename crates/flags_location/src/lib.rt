@@ -32,7 +32,7 @@ fn before_at(t: &Run, n: usize, p: Asked, w: &[u64]) -> bool
         return false;
     }
     let h = happens::happens_bit(w, 3 * p.x + 1, 3 * p.y + 1);
-    let g = domains::grid_bit(w, work_area::HOSTED, p.x, p.y);
+    let g = domains::grid_bit(w, work_area::grid::HOSTED, p.x, p.y);
     if pairs::l1(r, q, h) | pairs::l2(r, q, h) | g {
         return true;
     }

@@ -81,7 +81,7 @@ fn fill_out(t: &Run, n: usize, w: &mut [u64])
     for a in 0..n {
         for c in 0..n {
             let b = broadens_at(t, n, a, c, w);
-            work_area::grid::put_if(w, work_area::REACH_OUT, a, c, b);
+            work_area::grid::REACH_OUT.put_if(w, a, c, b);
         }
     }
 }
@@ -95,7 +95,7 @@ fn fill_in(t: &Run, n: usize, w: &mut [u64])
     for j in 0..n {
         for v in 0..n {
             let b = narrows_at(t, n, j, v, w);
-            work_area::grid::put_if(w, work_area::REACH_IN, j, v, b);
+            work_area::grid::REACH_IN.put_if(w, j, v, b);
         }
     }
 }
@@ -112,7 +112,7 @@ pub fn make_reach(t: &Run, n: usize, w: &mut [u64])
         return;
     }
     fill_out(t, n, w);
-    work_area::grid::close(w, work_area::REACH_OUT, n);
+    work_area::grid::REACH_OUT.close(w, n);
     fill_in(t, n, w);
-    work_area::grid::close(w, work_area::REACH_IN, n);
+    work_area::grid::REACH_IN.close(w, n);
 }

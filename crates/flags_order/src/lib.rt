@@ -27,7 +27,7 @@ pub fn fill_order(t: &Run, n: usize, w: &mut [u64])
     for m in 0..3 * n {
         for k in 0..3 * n {
             let b = moments::ordered_at(t, n, m, k);
-            work_area::moments::put_if(w, work_area::HAPPENS, m, k, b);
+            work_area::grid::HAPPENS.put_if(w, m, k, b);
         }
     }
 }
@@ -57,7 +57,7 @@ pub fn add_set(t: &Run, n: usize, s: u8, w: &mut [u64])
 {
     if is_live(t, n, s + 1) {
         steps::fill_step(t, n, s + 1, w);
-        work_area::moments::close(w, work_area::STEP, 3 * n);
+        work_area::grid::STEP.close(w, 3 * n);
         bits::join_row(
             w,
             work_area::HAPPENS,

@@ -60,7 +60,7 @@ fn sync_bit(m: usize, k: usize, w: &[u64]) -> bool
     requires { (m < 3 * ROWS) × (k < 3 * ROWS) × (WORK ≤ length w.now) }
     ensures { result ≡ rel w.now SYNC GRID (m / 3) (k / 3) }
 {
-    work_area::grid::get(w, work_area::SYNC, m / 3, k / 3)
+    work_area::grid::SYNC.get(w, m / 3, k / 3)
 }
 
 // Sets the bit from m to k where there is one.
@@ -69,7 +69,7 @@ fn fill_cell(t: &Run, n: usize, s: u8, m: usize, k: usize, w: &mut [u64])
     ensures { CellMade t.now n s m k w.old w.new }
 {
     let b = step_of(t, n, s, m, k, sync_bit(m, k, w));
-    work_area::moments::put_if(w, work_area::STEP, m, k, b);
+    work_area::grid::STEP.put_if(w, m, k, b);
 }
 
 // Sets the bits of those from and to the moment m.
@@ -112,7 +112,7 @@ fn put_dependency(t: &Run, n: usize, c: u16, w: &mut [u64])
     if n <= y {
         return;
     }
-    work_area::moments::put(w, work_area::STEP, 3 * x + 1, 3 * y + 1);
+    work_area::grid::STEP.put(w, 3 * x + 1, 3 * y + 1);
 }
 
 // Adds the direct case that goes by dependencies: a bit for each of them, instead of a test of all at every two moments.

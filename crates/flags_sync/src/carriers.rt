@@ -16,7 +16,7 @@ pub fn takes_from_at(t: &Run, n: usize, x: usize, y: usize, w: &[u64]) -> bool
     requires { TwoOf n x y × (WORK ≤ length w.now) × Sequenced (table_in t.now n) n w.now }
     ensures { result ≡ takes_from (table_in t.now n) x y }
 {
-    if !work_area::grid::get(w, work_area::MUTUAL, x, y) {
+    if !work_area::grid::MUTUAL.get(w, x, y) {
         return false;
     }
     let s = run::atomic_source(t, y as u16);
@@ -26,7 +26,7 @@ pub fn takes_from_at(t: &Run, n: usize, x: usize, y: usize, w: &[u64]) -> bool
     }
     let r = run::row(t, x as u16);
     let q = run::row(t, y as u16);
-    let b = work_area::grid::get(w, work_area::SEQUENCE, x, k);
+    let b = work_area::grid::SEQUENCE.get(w, x, k);
     door_rows::kinds::writes(r) & door_rows::kinds::reads(q) & b
 }
 

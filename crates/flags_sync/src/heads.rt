@@ -23,7 +23,7 @@ pub fn fill_mutual(t: &Run, n: usize, w: &mut [u64])
     for i in 0..n {
         for j in 0..n {
             let b = sequences::mutual_at(t, n, i, j);
-            work_area::grid::put_if(w, work_area::MUTUAL, i, j, b);
+            work_area::grid::MUTUAL.put_if(w, i, j, b);
         }
     }
 }
@@ -35,7 +35,7 @@ pub fn follows_at(t: &Run, n: usize, i: usize, j: usize, w: &[u64]) -> bool
 {
     let r = run::row(t, i as u16);
     let q = run::row(t, j as u16);
-    let b = work_area::grid::get(w, work_area::MUTUAL, i, j);
+    let b = work_area::grid::MUTUAL.get(w, i, j);
     b & door_rows::scopes::is_later_writer(run::counted(t), q, r)
 }
 
@@ -49,7 +49,7 @@ pub fn is_ended(t: &Run, n: usize, a: usize, x: usize, w: &[u64]) -> bool
     let h = run::row(t, a as u16);
     let r = run::row(t, x as u16);
     for z in 0..n {
-        let b = work_area::grid::get(w, work_area::MUTUAL, a, z);
+        let b = work_area::grid::MUTUAL.get(w, a, z);
         let q = run::row(t, z as u16);
         if sequences::is_end(run::counted(t), b, h, r, q) {
             return true;
@@ -79,7 +79,7 @@ pub fn fill_sequence(t: &Run, n: usize, w: &mut [u64])
     for a in 0..n {
         for x in 0..n {
             let b = sequence_at(t, n, a, x, w);
-            work_area::grid::put_if(w, work_area::SEQUENCE, a, x, b);
+            work_area::grid::SEQUENCE.put_if(w, a, x, b);
         }
     }
 }

@@ -131,7 +131,7 @@ pub fn fill_sync(t: &Run, n: usize, w: &mut [u64])
     for a in 0..n {
         for b in 0..n {
             let d = sync_at(t, n, a, b, w);
-            work_area::grid::put_if(w, work_area::SYNC, a, b, d);
+            work_area::grid::SYNC.put_if(w, a, b, d);
         }
     }
 }

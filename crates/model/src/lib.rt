@@ -53,8 +53,16 @@ pub struct Row {
 }
 
 // Where a row's bytes come from: a row's number, the initial value, or a blank.
-#[derive(Clone, Copy)]
+#[derive(Clone, Copy, PartialEq, Eq)]
 pub struct Source(pub u16);
+
+impl From<u16> for Source {
+    ghost from_gives = { λ row s. s.0 ≡ row };
+
+    fn from(row: u16) -> Source {
+        Source(row)
+    }
+}
 
 impl Source {
     pub const INITIAL: Source = Source(65535);
@@ -62,22 +70,16 @@ impl Source {
     // A blank is the paper's own term: a source that a fill is to find.
     pub const BLANK: Source = Source(65534);
 
-    pub fn of_row(row: u16) -> Source
-        ensures { result.0 ≡ row }
-    {
-        Source(row)
-    }
-
     pub fn is_initial(self) -> bool
         ensures { result ≡ eqb self.0 INITIAL }
     {
-        self.0 == Source::INITIAL.0
+        self == Source::INITIAL
     }
 
     pub fn is_blank(self) -> bool
         ensures { result ≡ eqb self.0 BLANK }
     {
-        self.0 == Source::BLANK.0
+        self == Source::BLANK
     }
 
     // Whether it is one of so many rows.

@@ -31,7 +31,7 @@ pub fn touches_of(s: u8, r: Row, k: u8) -> bool
 {
     let access = door_rows::kinds::is_access(r) & door_rows::kinds::class_in(r, s);
     let other = door_rows::kinds::meets(moments::classes_of(r), s);
-    pick::flag(k == moments::AT, access, other)
+    pick::either(k == moments::AT, access, other)
 }
 
 // M6: whether moment k of r accesses a class in s, or is an atomic or barrier holding all of s.

@@ -18,7 +18,7 @@ pub const AFTER: u8 = 2;
 pub fn availability_of(r: Row, k: u8) -> bool
     ensures { result ≡ availability_of r k }
 {
-    let at = pick::byte(door_rows::kinds::is_plain(r), AFTER, BEFORE);
+    let at = pick::either(door_rows::kinds::is_plain(r), AFTER, BEFORE);
     door_rows::kinds::makes_available(r) & !(r.scope == door_rows::scopes::INVOCATION) & (k == at)
 }
 
@@ -26,7 +26,7 @@ pub fn availability_of(r: Row, k: u8) -> bool
 pub fn visibility_of(r: Row, k: u8) -> bool
     ensures { result ≡ visibility_of r k }
 {
-    let at = pick::byte(door_rows::kinds::is_plain(r), BEFORE, AFTER);
+    let at = pick::either(door_rows::kinds::is_plain(r), BEFORE, AFTER);
     door_rows::kinds::makes_visible(r) & !(r.scope == door_rows::scopes::INVOCATION) & (k == at)
 }
 
@@ -41,7 +41,7 @@ pub fn moment_of(r: Row, k: u8) -> bool
 pub fn classes_of(r: Row) -> u8
     ensures { result ≡ classes_of r }
 {
-    pick::byte(
+    pick::either(
         door_rows::kinds::is_plain(r),
         door_rows::kinds::single(r.class),
         r.classes,

@@ -1,21 +1,9 @@
 // The bytes that two accesses share.
-ghost use Rattle.std.specs.Prelude.{◌≡◌, max, min};
+ghost use Rattle.std.specs.Prelude.{◌≡◌};
 ghost use Rattle.model.specs.Row.{lowest_shared, is_shared, overlap};
 ghost use Rattle.model.specs.Race.{clash};
 
 use model::{Row, Shared};
-
-fn higher(a: u32, b: u32) -> u32
-    ensures { result ≡ max a b }
-{
-    if a < b { b } else { a }
-}
-
-fn lower(a: u32, b: u32) -> u32
-    ensures { result ≡ min a b }
-{
-    if a < b { a } else { b }
-}
 
 // The lowest of the m bytes from a that is one of the n bytes from b, for every start and size, 0 too: the higher start, where
 // it lies before the lower end. An end may be past 65535, so the numbers are wider.
@@ -23,8 +11,8 @@ fn lower(a: u32, b: u32) -> u32
 pub fn lowest_shared(a: u16, m: u8, b: u16, n: u8) -> Shared
     ensures { result ≡ lowest_shared a m b n }
 {
-    let start = higher(a as u32, b as u32);
-    let end = lower((a as u32) + (m as u32), (b as u32) + (n as u32));
+    let start = (a as u32).max(b as u32);
+    let end = ((a as u32) + (m as u32)).min((b as u32) + (n as u32));
     if start < end {
         return Shared::At(start as u16);
     }

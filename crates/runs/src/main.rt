@@ -18,8 +18,8 @@ fn take_bytes(
     table: &mut [u8; 4096],
 ) -> io::Result<Line> {
     let mut now = line;
-    for i in 0..bytes.len() {
-        now = lines::take_byte(rt, now, bytes[i], table)?;
+    for b in bytes {
+        now = lines::take_byte(rt, now, *b, table)?;
     }
     Ok(now)
 }

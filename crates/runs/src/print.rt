@@ -16,7 +16,7 @@ pub fn line_end(rt: &impl Print) -> io::Result<()> {
 
 // The number at a place, 0 past the end.
 fn number_at(list: &[u16], at: usize) -> u16 {
-    if at < list.len() { list[at] } else { 0 }
+    list.get(at).copied().unwrap_or(0)
 }
 
 // The numbers at places from..to.

@@ -1,7 +1,7 @@
 // Bytes of a row as bits from its start, at most 16, and the bits of pairs in location order.
 #![tactic(auto)]
 
-ghost use Rattle.std.specs.Prelude.{◌≡◌, ◌^◌, ◌≤◌, ◌<◌, max, min, length};
+ghost use Rattle.std.specs.Prelude.{◌≡◌, ◌^◌, ◌≤◌, ◌<◌, length};
 ghost use Rattle.model.specs.Limits.{ROWS, WORK, LONGEST};
 ghost use Rattle.run.specs.Layout.{table_in};
 ghost use Rattle.sets_of_table.specs.Fit.{Fit};
@@ -13,18 +13,6 @@ use sets_of_table::fields;
 
 const MASKS: u64 = 65536;
 
-fn higher(a: u32, b: u32) -> u32
-    ensures { result ≡ max a b }
-{
-    if a < b { b } else { a }
-}
-
-fn lower(a: u32, b: u32) -> u32
-    ensures { result ≡ min a b }
-{
-    if a < b { a } else { b }
-}
-
 // The bytes of x that y has too.
 pub fn shared(t: &Run, n: usize, x: usize, y: usize) -> u64
     requires { (x < n) × (y < n) × Fit (table_in t.now n) }
@@ -34,8 +22,8 @@ pub fn shared(t: &Run, n: usize, x: usize, y: usize) -> u64
     let end = fields::end(t, x);
     let a = fields::start(t, y);
     let b = fields::end(t, y);
-    let low = higher(start, a);
-    let high = lower(end, b);
+    let low = start.max(a);
+    let high = end.min(b);
     if high <= low {
         return 0;
     }

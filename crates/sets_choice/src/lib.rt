@@ -114,7 +114,7 @@ fn chosen_at(t: &Run, n: usize, s: &[u64], i: usize, own: u16, w: &[u64]) -> u16
     ensures { result ≡ chosen_from (table_in t.now n) i own }
 {
     let plain = kept::get(s, sets_of_table::BY_KIND, kinds::PLAIN_READ as usize);
-    let source = Source::of_row(own);
+    let source = Source::from(own);
     if plain.has(i) & source.is_blank() {
         return choice_of(t, n, s, i, w);
     }

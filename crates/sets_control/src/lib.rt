@@ -85,9 +85,7 @@ fn pass_up(t: &Run, n: usize, s: &[u64], passing: &mut [u64], w: &mut [u64])
     requires { (64 ≤ length passing.old) × ((k : ℕ) → get_or passing.old k 0 ≡ 0) × Given (table_in t.now n) n s.now w.old }
     ensures { MadeGrid PASSED PASSED_END PASSED n (passed_by (table_in t.now n)) w.old w.new }
 {
-    let mut a = n;
-    while 0 < a {
-        a -= 1;
+    for a in (0..n).rev() {
         pass_row(t, n, s, a, passing, w);
     }
 }

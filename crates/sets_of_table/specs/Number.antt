@@ -4,7 +4,14 @@ use Rattle.std.proofs.Common.{sym, ap, subst, ◌∙◌, arith, length-set, get_
 use Rattle.std.proofs.Math.Decide.{dec_lt, ℕ_discrete}
 use Rattle.std.proofs.lemmas.Bool.{eqb-false}
 use Rattle.finite.specs.Logic.{not_both, and_true}
-use Rattle.finite.specs.Below.{any_below, least, least_is}
+use Rattle.std.specs.Option.{unwrap_or}
+use Rattle.std.specs.Prelude.{MatchOption, take, ◌≢◌}
+use Rattle.std.specs.declared.option.Option.{Option}
+use Rattle.std.specs.declared.option.Option.TheVariants.{Some, None}
+use Rattle.std.specs.List.{AllWithin, HoldsAt}
+use lib.Seq.{length-take-le, get_or-take}
+use borrow.Author.Tests.{ne_eqb}
+use Rattle.finite.specs.Below.{any_below, least, least_is, least_off, least_unique}
 use Rattle.model.specs.declared.Row.{Row}
 use Rattle.model.specs.Limits.{ROWS}
 use Rattle.model.specs.Scope.{same_location}
@@ -207,3 +214,23 @@ step_keys {i} {l} {k} {l'} {keys} s = ap length s.keys_are ∙ length-set keys (
 
 pub step_loc : {i l k l' : ℕ} {keys loc keys' loc' : List ℕ} → Step i l k keys loc keys' loc' l' → length loc' ≡ length loc
 step_loc {i} {l} {k} {l'} {keys} {loc} s = ap length s.loc_are ∙ length-set loc i (least l (key_at keys k))
+
+-- ---- laws: the first of l keys that is k, as `position` finds it
+
+module _ (keys : List ℕ) (l k : ℕ) (room : l ≤ length keys) where
+  long : length (take l keys) ≡ l
+  long = length-take-le l keys room
+
+  missed : (m : ℕ) → m ≤ l → AllWithin (λ x. x ≢ k) (take l keys) 0 m → (j : ℕ) → j < m → key_at keys k j ≡ false
+  unfolding key_at
+  missed m h none j b = ne_eqb _ _ (λ e. none j 0 (omega arith) b (get_or-take l keys j 0 (omega arith) ∙ e))
+
+  pub first_key : (r : Option ℕ) → MatchOption r (AllWithin (λ x. x ≢ k) (take l keys) 0 (length (take l keys)))
+      (λ i. (i < length (take l keys)) × HoldsAt (λ x. x ≡ k) (take l keys) i × AllWithin (λ x. x ≢ k) (take l keys) 0 i)
+      → (unwrap_or r l ≡ least l (key_at keys k)) × (unwrap_or r l ≤ l)
+  unfolding key_at
+  first_key None none = (sym (least_off _ l (missed l (omega arith) (rw long at none))), omega arith)
+  first_key (Some i) (b, hit, before) =
+      let inside : i < l = rw long at b in
+      let found : get_or keys i 0 ≡ k = sym (get_or-take l keys i 0 inside) ∙ hit 0 in
+      (sym (least_unique _ l i inside (eq-eqb _ _ found) (missed i (omega arith) before)), omega arith)

@@ -42,15 +42,6 @@ pub record Level (p : List (List ℕ)) (a b l : ℕ) : Type 0 where
 pub record Levels (p : List (List ℕ)) (a m : ℕ) (l : List ℕ) : Type 0 where
   pub each : (b : ℕ) → b < m → Level p a b (get_or l b 0)
 
--- ---- laws: levels
-
-pub levels_more : {p : List (List ℕ)} {a m : ℕ} {l : List ℕ} (v : ℕ) → m < length l → Levels p a m l → Level p a m v → Levels p a (m + 1) (set l m v)
-levels_more {p} {a} {m} {l} v room h d = record { each = λ b o. go b o (ℕ_discrete b m) }
-  where
-    go : (b : ℕ) → b < m + 1 → Dec (b ≡ m) → Level p a b (get_or (set l m v) b 0)
-    go b o (yes e) = subst (λ (k : ℕ). Level p a k (get_or (set l m v) k 0)) (sym e) (subst (λ (k : ℕ). Level p a m k) (sym (get_or-set_same l m v 0 room)) d)
-    go b o (no e) = subst (λ (k : ℕ). Level p a b k) (sym (get_or-set_other l m b v 0 e)) (h.each b (omega (arith, o, e)))
-
 pub level_alien : (p : List (List ℕ)) (a b : ℕ) → (not (eqb (get_or (get_or p b []) 3 0) 0) or not (eqb (get_or (get_or p a []) 3 0) 0)) ≡ true → Level p a b 5
 level_alien p a b h =
     record { bound = omega arith; is = λ q l. sym (shares_alien p q a b (get_or p a []) (get_or p b []) (place_is p a) (place_is p b) h) ∙ sym (lt-leb 5 q l) }

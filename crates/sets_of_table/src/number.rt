@@ -33,12 +33,7 @@ fn find(keys: &[u64], l: usize, k: u64) -> usize
     requires { l ≤ length keys.now }
     ensures { (result ≡ least l (key_at keys.now k)) × (result ≤ l) }
 {
-    for i in 0..l {
-        if keys[i] == k {
-            return i;
-        }
-    }
-    l
+    keys[..l].iter().position(|x| *x == k).unwrap_or(l)
 }
 
 // How many numbers there are once f was used.

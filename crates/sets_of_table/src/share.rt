@@ -47,13 +47,10 @@ fn levels(p: Places, a: usize) -> [usize; 32]
     requires { a < AGENTS }
     ensures { Levels p a AGENTS result }
 {
-    let x = p[a];
-    let mut l = [0usize; model::AGENTS];
-    for b in 0..model::AGENTS {
-        let y = p[b];
-        l[b] = level(x, y, a == b);
-    }
-    l
+    std::array::from_fn(|b: usize| -> usize
+        requires { (a < AGENTS) × (b < AGENTS) }
+        ensures { Level p a b result }
+    { level(p[a], p[b], a == b) })
 }
 
 // The sets of scopes from l on, of those from word `base` on, take in v.

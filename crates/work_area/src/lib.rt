@@ -2,8 +2,7 @@
 // the same.
 #![tactic(auto)]
 
-pub mod grid; // bits of two rows
-pub mod moments; // bits of two moments
+pub mod grid; // bits of two rows, or of two moments
 pub mod pairs; // bits of two rows and a byte
 
 // Words in a row of a grid over rows, and over moments.

@@ -9,18 +9,18 @@ use mathlib.Core.Path.{ap}
 use mathlib.Core.Bool.{not}
 use Rattle.ask_accepts.proofs.is_chain.Goals as goal
 
-pub loop-i-init : goal.loop-i-init
-loop-i-init c = (search rules, stands_first _ _, search rules, any_none _)
+pub loop-x-init : goal.loop-x-init
+loop-x-init c = (search rules, stands_first _ _, search rules, any_none _)
 
 pub returns-then-not-is_step : goal.returns-then-not-is_step
 returns-then-not-is_step c =
-    let inv = c.loop-i.invariant in
-    leads_broken _ _ _ _ _ _ _ _ _ c.loop-i-test.true
+    let inv = c.loop-x.invariant in
+    leads_broken _ _ _ _ _ _ _ _ _ c.loop-x-test.true
     (broken_is _ _ _ _ _ _ _ _ _ _ inv.1 c.is_step.ensures ∙ (ap not c.if-not-is_step.true))
 
-pub loop-i-preserved : goal.loop-i-preserved
-loop-i-preserved c =
-    let inv = c.loop-i.invariant in (
+pub loop-x-preserved : goal.loop-x-preserved
+loop-x-preserved c =
+    let inv = c.loop-x.invariant in (
       search rules,
       stands_next _ _ _,
       step_low _ _ _ _ _ _ _ (sym c.is_step.ensures ∙ c.if-not-is_step.false),
@@ -29,5 +29,5 @@ loop-i-preserved c =
 
 pub returns : goal.returns
 returns c =
-    let e : c.loop-i.i ≡ length c.args.steps.now = omega arith in
-    leads_whole _ _ _ _ _ _ _ _ _ _ e c.loop-i.invariant.1 c.loop-i.invariant.3
+    let e : c.loop-x.x-index ≡ length c.args.steps.now = omega arith in
+    leads_whole _ _ _ _ _ _ _ _ _ _ e c.loop-x.invariant.1 c.loop-x.invariant.3

@@ -20,4 +20,4 @@ pub returns : goal.returns
 unfolding ◌and◌
 returns c =
     let e = c.admit-a.ensures ∙ door_wide _ _ _ _ _ _ (ap not c.if-not-work-needs.false) in
-    (e, opens_laid _ _ _ _ _ _ _ _ _ e (laid_open c.args.chains _ _ _ _ _ _ c.lay.ensures c.byte.ensures refl))
+    (e, opens_laid _ _ _ _ _ _ _ _ _ e (laid_open c.args.chains _ _ _ _ _ _ c.lay.ensures c.either.ensures refl))

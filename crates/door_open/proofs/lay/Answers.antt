@@ -13,7 +13,7 @@ put_places-requires c =
 pub put-requires : goal.put-requires
 put-requires c =
     let long = blank_long _ c.requires in
-    (omega (arith, c.put_head.ensures.len, c.put_places.ensures.len, c.at_most-size.ensures), omega (arith, c.at_most-size.ensures))
+    (omega (arith, c.put_head.ensures.len, c.put_places.ensures.len, c.min-size.ensures), omega (arith, c.min-size.ensures))
 
 pub put_rows-requires : goal.put_rows-requires
 put_rows-requires c =
@@ -21,4 +21,4 @@ put_rows-requires c =
 
 pub returns : goal.returns
 returns c =
-    all_put _ _ _ _ _ _ _ _ _ c.requires c.dependency_bytes-d.ensures c.at_most-size.ensures c.put_head.ensures c.put_places.ensures c.put.ensures c.put_rows.ensures
+    all_put _ _ _ _ _ _ _ _ _ c.requires c.dependency_bytes-d.ensures c.min-size.ensures c.put_head.ensures c.put_places.ensures c.put.ensures c.put_rows.ensures

@@ -4,4 +4,4 @@ use Rattle.door_open.proofs.put_head.Goals as goal
 
 pub returns : goal.returns
 returns c =
-    head_put _ _ _ _ _ _ c.put.ensures (search rules) c.is_counted.ensures c.byte-counted.ensures c.agents_at.ensures
+    head_put _ _ _ _ _ _ c.put.ensures (search rules) c.is_counted.ensures c.either-counted.ensures c.agents_at.ensures

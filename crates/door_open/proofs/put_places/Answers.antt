@@ -15,4 +15,4 @@ loop-k-preserved c =
 
 pub returns : goal.returns
 returns c =
-    places_put _ _ _ _ _ _ _ c.loop-k.invariant.2 c.has_hosts-hosts.ensures c.agents_at.ensures c.at_most-n.ensures (omega arith)
+    places_put _ _ _ _ _ _ _ c.loop-k.invariant.2 c.has_hosts-hosts.ensures c.agents_at.ensures c.min-n.ensures (omega arith)

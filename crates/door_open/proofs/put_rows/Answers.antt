@@ -4,4 +4,4 @@ use Rattle.door_open.proofs.put_rows.Goals as goal
 
 pub returns : goal.returns
 returns c =
-    rows_put _ _ _ _ _ _ _ _ c.put.ensures c.put-2.ensures c.row_bytes-rows.ensures c.at_most-head.ensures c.at_most-end.ensures (search rules)
+    rows_put _ _ _ _ _ _ _ _ c.put.ensures c.put-2.ensures c.row_bytes-rows.ensures c.min-head.ensures c.min-end.ensures (search rules)

@@ -25,11 +25,11 @@ unfolding decode ◌and◌
 returns-then-has-is_blank c =
     let pre = c.requires in
     let plain = plain_has pre.1.given.opened _ pre.0 c.get-plain.ensures c.has.ensures in
-    blank_told _ _ _ _ _ _ _ refl c.of_row-source.ensures plain c.is_blank.ensures c.if-has-is_blank.true _ c.choice_of.ensures
+    blank_told _ _ _ _ _ _ _ refl c.from-source.ensures plain c.is_blank.ensures c.if-has-is_blank.true _ c.choice_of.ensures
 
 pub returns : goal.returns
 unfolding decode ◌and◌
 returns c =
     let pre = c.requires in
     let plain = plain_has pre.1.given.opened _ pre.0 c.get-plain.ensures c.has.ensures in
-    own_told _ _ _ _ _ _ _ refl c.of_row-source.ensures plain c.is_blank.ensures c.if-has-is_blank.false
+    own_told _ _ _ _ _ _ _ refl c.from-source.ensures plain c.is_blank.ensures c.if-has-is_blank.false

@@ -9,6 +9,3 @@ use Rattle.sets_control.proofs.pass_up.Given as goal
 
 abbrev pub invariant-loop-a : goal.invariant-loop-a
 invariant-loop-a l = (l.a ≤ l.n) × (length l.passing ≡ length l.initial.passing) × (length l.w ≡ length l.initial.w) × Passing (table_in l.t l.n) l.n l.a l.passing l.w × Within PASSED PASSED_END l.initial.w l.w
-
-abbrev pub decreases-loop-a : goal.decreases-loop-a
-decreases-loop-a l = l.a

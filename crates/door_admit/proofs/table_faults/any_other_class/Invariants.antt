@@ -8,6 +8,3 @@ use Rattle.door_admit.proofs.table_faults.any_other_class.Given as goal
 
 abbrev pub invariant-loop-j : goal.invariant-loop-j
 invariant-loop-j l = (l.j ≤ l.i) × ((k : ℕ) → l.j ≤ k → k < l.i → other_class_at (decode l.rows [] OFF 0) l.i k ≡ false)
-
-abbrev pub decreases-loop-j : goal.decreases-loop-j
-decreases-loop-j l = l.j

@@ -5,12 +5,12 @@ pub returns : goal.returns
 returns c =
     table_numbers _ _ _ _ _ _ _ _ _ _ _ _ _ _ _ _
     c.is_unfit.ensures
-    c.byte-run.ensures
+    c.either-run.ensures
     c.instance_broken.ensures
-    c.byte-instance.ensures
+    c.either-instance.ensures
     c.rank_taken.ensures
-    c.byte-rank.ensures
+    c.either-rank.ensures
     c.source_broken.ensures
-    c.byte-source.ensures
+    c.either-source.ensures
     c.class_taken.ensures
-    c.byte.ensures
+    c.either.ensures

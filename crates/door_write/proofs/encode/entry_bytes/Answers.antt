@@ -1,21 +1,8 @@
-use Rattle.door_write.proofs.Laws.{byte_entry}
-use Rattle.door_rows.proofs.Laws.{tab_none, tab_more, tab_all}
-use lib.ListN.{length-set, length-replicate}
-use mathlib.Core.Path.{◌≡◌}
-use native.Mathlib.Omega.{arith}
-use mathlib.Core.List.{[]}
-use Prim.Native.Nat.{ℕ}
-use borrow.Author.Rules.{rules}
+use Rattle.std.proofs.Common.{rules}
+use Rattle.finite.specs.Lists.{from_fn_tabulates}
+use Rattle.door_write.specs.Encode.{entry_byte}
 use Rattle.door_write.proofs.encode.entry_bytes.Goals as goal
-
-pub loop-k-init : goal.loop-k-init
-loop-k-init c = (search rules, length-replicate {A = ℕ} 2048 0, tab_none _ [])
-
-pub loop-k-preserved : goal.loop-k-preserved
-loop-k-preserved c =
-    (omega arith, simp length-set c.loop-k.invariant.1, tab_more _ _ _ _ (omega arith) c.loop-k.invariant.2 (byte_entry _ _ _ c.row_bytes-row.ensures))
 
 pub returns : goal.returns
 returns c =
-    let done : c.loop-k.k ≡ 2048 = omega arith in
-    tab_all _ c.loop-k.b 2048 c.loop-k.invariant.1 (rw done at c.loop-k.invariant.2)
+    from_fn_tabulates _ _ (entry_byte c.args.entries) c.from_fn.result 0 (λ k p q y e s. search rules) 2048 c.from_fn.ensures.items

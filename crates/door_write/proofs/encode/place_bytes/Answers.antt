@@ -1,24 +1,9 @@
-use Rattle.door_write.proofs.Laws.{byte_place}
-use Rattle.door_rows.proofs.Laws.{tab_none, tab_more, tab_all}
-use lib.ListN.{length-set, length-replicate}
-use mathlib.Core.Path.{◌≡◌}
-use native.Mathlib.Omega.{arith}
-use mathlib.Core.List.{[]}
-use Prim.Native.Nat.{ℕ}
-use borrow.Author.Rules.{rules}
+use Rattle.std.proofs.Common.{rules}
+use Rattle.finite.specs.Lists.{from_fn_tabulates}
+use Rattle.door_write.specs.Encode.{place_byte}
 use Rattle.door_write.proofs.encode.place_bytes.Goals as goal
 
-pub loop-k-init : goal.loop-k-init
-loop-k-init c = (search rules, length-replicate {A = ℕ} 256 0, tab_none _ [])
-
-pub loop-k-preserved : goal.loop-k-preserved
-loop-k-preserved c = (
-  omega arith,
-  simp length-set c.loop-k.invariant.1,
-  tab_more _ _ _ _ (omega arith) c.loop-k.invariant.2 (byte_place _ _ _ _ c.place_number.ensures c.half-v.ensures),
-)
-
 pub returns : goal.returns
+unfolding place_byte
 returns c =
-    let done : c.loop-k.k ≡ 256 = omega arith in
-    tab_all _ c.loop-k.b 256 c.loop-k.invariant.1 (rw done at c.loop-k.invariant.2)
+    from_fn_tabulates _ _ (place_byte c.args.hosts c.args.p) c.from_fn.result 0 (λ k p q y e s. search rules) 256 c.from_fn.ensures.items

@@ -1,22 +1,10 @@
+use Rattle.std.proofs.Common.{rules}
+use Rattle.finite.specs.Lists.{from_fn_tabulates}
 use Rattle.model.specs.Limits.{DEPENDENCIES}
 use Rattle.door_write.specs.Parts.{end_in}
-use Rattle.door_rows.proofs.Laws.{tab_none, tab_more, tab_all}
-use lib.ListN.{length-set}
-use mathlib.Core.Path.{◌≡◌, refl}
-use native.Mathlib.Omega.{arith}
-use mathlib.Core.List.{[]}
-use borrow.Author.Rules.{rules}
 use Rattle.door_write.proofs.parts.ends_in.Goals as goal
 
-pub loop-k-init : goal.loop-k-init
-loop-k-init c = (search rules, refl, tab_none _ [])
-
-pub loop-k-preserved : goal.loop-k-preserved
-unfolding end_in
-loop-k-preserved c =
-    (omega arith, simp length-set c.loop-k.invariant.1, tab_more _ _ _ _ (omega arith) c.loop-k.invariant.2 (cc))
-
 pub returns : goal.returns
+unfolding end_in
 returns c =
-    let done : c.loop-k.k ≡ DEPENDENCIES = omega arith in
-    tab_all _ c.loop-k.ends DEPENDENCIES c.loop-k.invariant.1 (rw done at c.loop-k.invariant.2)
+    from_fn_tabulates _ _ (end_in c.args.q.now c.args.at) c.from_fn.result 0 (λ k p q y e s. search rules) DEPENDENCIES c.from_fn.ensures.items

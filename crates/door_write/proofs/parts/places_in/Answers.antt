@@ -1,22 +1,10 @@
+use Rattle.std.proofs.Common.{rules, []}
+use Rattle.finite.specs.Lists.{from_fn_tabulates}
 use Rattle.model.specs.Limits.{AGENTS}
-use Rattle.door_write.specs.Parts.{places_in}
-use Rattle.door_rows.proofs.Laws.{tab_none, tab_more, tab_all}
-use lib.ListN.{length-set}
-use mathlib.Core.Path.{◌≡◌, refl}
-use native.Mathlib.Omega.{arith}
-use mathlib.Core.List.{[]}
-use borrow.Author.Rules.{rules}
+use Rattle.door_write.specs.Parts.{place_in, places_in}
 use Rattle.door_write.proofs.parts.places_in.Goals as goal
-
-pub loop-a-init : goal.loop-a-init
-loop-a-init c = (search rules, refl, tab_none _ [])
-
-pub loop-a-preserved : goal.loop-a-preserved
-loop-a-preserved c =
-    (omega arith, simp length-set c.loop-a.invariant.1, tab_more _ _ _ _ (omega arith) c.loop-a.invariant.2 c.place_in-place.ensures)
 
 pub returns : goal.returns
 unfolding places_in
 returns c =
-    let done : c.loop-a.a ≡ AGENTS = omega arith in
-    tab_all _ c.loop-a.p AGENTS c.loop-a.invariant.1 (rw done at c.loop-a.invariant.2)
+    from_fn_tabulates _ _ (place_in c.args.q.now) c.from_fn.result [] (λ k p q y e s. search rules) AGENTS c.from_fn.ensures.items

@@ -5,5 +5,5 @@ pub returns : goal.returns
 returns c =
     number_is _ _ _ _ _ _ _ _ _ _ _ _ c.before_some-location.ensures
     c.follows_at-order.ensures c.reads_from_at-source.ensures
-    c.from_reads_at-reader.ensures c.number-4.ensures c.number-3.ensures
-    c.number-2.ensures c.number.ensures
+    c.from_reads_at-reader.ensures c.either-4.ensures c.either-3.ensures
+    c.either-2.ensures c.either.ensures

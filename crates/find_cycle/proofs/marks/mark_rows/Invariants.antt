@@ -7,6 +7,3 @@ use Rattle.find_cycle.proofs.marks.mark_rows.Given as goal
 
 abbrev pub invariant-loop-x : goal.invariant-loop-x
 invariant-loop-x l = (l.x ≤ l.n) × (length l.w ≡ length l.initial.w) × Swept l.n l.x l.initial.w l.w
-
-abbrev pub decreases-loop-x : goal.decreases-loop-x
-decreases-loop-x l = l.x

@@ -7,10 +7,10 @@ pub returns-then-is_plain_read-is_blank : goal.returns-then-is_plain_read-is_bla
 unfolding decode ◌and◌
 returns-then-is_plain_read-is_blank c =
     blank_told _ _ _ _ _ _ _ c.row-r.ensures
-    c.of_row-own.ensures c.is_plain_read.ensures
+    c.from-own.ensures c.is_plain_read.ensures
     c.is_blank.ensures c.if-is_plain_read-is_blank.true _ c.choice_of.ensures
 
 pub returns : goal.returns
 unfolding decode ◌and◌
-returns c = own_told _ _ _ _ _ _ _ c.row-r.ensures c.of_row-own.ensures
+returns c = own_told _ _ _ _ _ _ _ c.row-r.ensures c.from-own.ensures
     c.is_plain_read.ensures c.is_blank.ensures c.if-is_plain_read-is_blank.false

@@ -5,6 +5,7 @@ use Rattle.finite.specs.Lists.{tabulate}
 use Rattle.model.specs.Limits.{DEPENDENCIES}
 use Rattle.model.specs.Table.{Mode, Table, dependency_from, dependency_to, dependency_count, decode}
 use Rattle.model.specs.Header.{places_of}
+use Rattle.run.specs.declared.Run.{Run}
 
 -- the bytes of a run
 abbrev pub SIZE : ℕ
@@ -40,3 +41,7 @@ rows_in t = drop ROWS_AT t
 -- the table of n rows in a run
 abbrev pub table_in : List ℕ → ℕ → Table
 table_in t n = decode (rows_in t) (places_in t) (mode_in t) n
+
+-- the table of a run
+abbrev pub table_of : Run → Table
+table_of t = table_in t.bytes t.rows

@@ -1,4 +1,4 @@
-// A table as bytes with fixed places, made once and lent everywhere.
+// A table as bytes with fixed places, and how many rows it has: made once and lent everywhere.
 #![tactic(auto)]
 
 ghost use Rattle.std.specs.Prelude.{◌≡◌, get_or, drop};
@@ -18,7 +18,11 @@ pub const DEPENDS: usize = 264;
 
 pub const ROWS_AT: usize = 522;
 
-pub type Run = [u8; 2570];
+#[derive(Drop)]
+pub struct Run {
+    pub bytes: [u8; SIZE],
+    pub rows: usize,
+}
 
 // ---- over the bytes of a run as a slice, for what makes one
 
@@ -50,158 +54,158 @@ pub fn counted_in(s: &[u8]) -> bool
     bytes::byte_at(s, 1) != 0
 }
 
-// ---- of a run: all rows and all places, for what takes them so
-
-pub fn rows_of(t: &Run) -> &[u8]
-    ensures { result.now ≡ rows_in t.now }
-{
-    rows_in(t)
-}
-
-pub fn places(t: &Run) -> Places
-    ensures { result ≡ places_in t.now }
-{
-    places_in(t)
-}
-
-// ---- one of them
-
-pub fn counted(t: &Run) -> bool
-    ensures { result ≡ (mode_in t.now).counted }
-{
-    counted_in(t)
-}
-
-pub fn chains(t: &Run) -> bool
-    ensures { result ≡ (mode_in t.now).chains }
-{
-    bytes::byte_at(t, 2) != 0
-}
-
-pub fn row(t: &Run, i: u16) -> Row
-    ensures { result ≡ row_of (rows_in t.now) i }
-{
-    bytes::read_row(rows_of(t), i)
-}
-
-pub fn start(t: &Run, i: u16) -> u16
-    ensures { result ≡ (row_of (rows_in t.now) i).start }
-{
-    bytes::read_start(rows_of(t), i)
-}
-
-pub fn kind(t: &Run, i: u16) -> u8
-    ensures { result ≡ (row_of (rows_in t.now) i).kind }
-{
-    bytes::read_kind(rows_of(t), i)
-}
-
-pub fn agent(t: &Run, i: u16) -> u8
-    ensures { result ≡ (row_of (rows_in t.now) i).agent }
-{
-    bytes::read_agent(rows_of(t), i)
-}
-
-pub fn classes(t: &Run, i: u16) -> u8
-    ensures { result ≡ (row_of (rows_in t.now) i).classes }
-{
-    bytes::read_classes(rows_of(t), i)
-}
-
-pub fn flags(t: &Run, i: u16) -> u8
-    ensures { result ≡ (row_of (rows_in t.now) i).flags }
-{
-    bytes::row_byte(rows_of(t), i, 5)
-}
-
-// An atomic row's source; the initial value for every other row.
-pub fn atomic_source(t: &Run, i: u16) -> Source
-    ensures { result.0 ≡ atomic_source (rows_in t.now) i }
-{
-    bytes::atomic_source(rows_of(t), i)
-}
-
-// ---- dependencies
-
-// Ruled out: one that gives how many a table may have; one that reads the header's count of rows.
-pub fn dependencies(t: &Run) -> u16
-    ensures { result ≡ (mode_in t.now).dependencies }
-{
-    bytes::pair_at(part(t, DEPENDS), 0)
-}
-
-// A row of dependency k, by its byte in the first of them; 0 for one that there is no slot for.
-fn end_of(t: &Run, at: u8, k: u16) -> u16
-    ensures { result ≡ get_or (tabulate (dependency_end (drop DEPENDS t.now) at) DEPENDENCIES) k 0 }
-{
-    let i = k as usize;
-    if i < model::DEPENDENCIES {
-        return bytes::pair_at(
-            part(t, DEPENDS),
-            (at as usize) + i * bytes::DEPENDENCY_BYTES,
-        );
+impl Run {
+    pub fn row_bytes(&self) -> &[u8]
+        ensures { result.now ≡ rows_in self.now.bytes }
+    {
+        rows_in(&self.bytes)
     }
-    0
-}
 
-// The row that system-synchronizes-with another, and that other row, by dependency k.
-// Ruled out: one that exchanges the two; one that reads what the next dependency says.
-pub fn first_of(t: &Run, k: u16) -> u16
-    ensures { result ≡ get_or (mode_in t.now).first k 0 }
-{
-    end_of(t, 2, k)
-}
+    pub fn places(&self) -> Places
+        ensures { result ≡ places_in self.now.bytes }
+    {
+        places_in(&self.bytes)
+    }
 
-pub fn second_of(t: &Run, k: u16) -> u16
-    ensures { result ≡ get_or (mode_in t.now).second k 0 }
-{
-    end_of(t, 4, k)
-}
+    // ---- one of them
 
-// Whether dependency k is of the rows x and y, in this order.
-fn is_dependency(t: &Run, x: u16, y: u16, k: u16) -> bool
-    ensures { result ≡ dependency (mode_in t.now) x y k }
-{
-    (first_of(t, k) == x) & (second_of(t, k) == y)
-}
+    pub fn counted(&self) -> bool
+        ensures { result ≡ (mode_in self.now.bytes).counted }
+    {
+        counted_in(&self.bytes)
+    }
 
-// Whether a dependency is of the rows x and y: x system-synchronizes-with y.
-// Ruled out: one that takes a dependency in either direction; one that leaves the last dependency out.
-pub fn depends(t: &Run, x: u16, y: u16) -> bool
-    ensures { result ≡ depends_of (mode_in t.now) x y }
-{
-    for k in 0..dependencies(t) {
-        if is_dependency(t, x, y, k) {
-            return true;
+    pub fn chains(&self) -> bool
+        ensures { result ≡ (mode_in self.now.bytes).chains }
+    {
+        bytes::byte_at(&self.bytes, 2) != 0
+    }
+
+    pub fn row(&self, i: u16) -> Row
+        ensures { result ≡ row_of (rows_in self.now.bytes) i }
+    {
+        bytes::read_row(self.row_bytes(), i)
+    }
+
+    pub fn start(&self, i: u16) -> u16
+        ensures { result ≡ (row_of (rows_in self.now.bytes) i).start }
+    {
+        bytes::read_start(self.row_bytes(), i)
+    }
+
+    pub fn kind(&self, i: u16) -> u8
+        ensures { result ≡ (row_of (rows_in self.now.bytes) i).kind }
+    {
+        bytes::read_kind(self.row_bytes(), i)
+    }
+
+    pub fn agent(&self, i: u16) -> u8
+        ensures { result ≡ (row_of (rows_in self.now.bytes) i).agent }
+    {
+        bytes::read_agent(self.row_bytes(), i)
+    }
+
+    pub fn classes(&self, i: u16) -> u8
+        ensures { result ≡ (row_of (rows_in self.now.bytes) i).classes }
+    {
+        bytes::read_classes(self.row_bytes(), i)
+    }
+
+    pub fn flags(&self, i: u16) -> u8
+        ensures { result ≡ (row_of (rows_in self.now.bytes) i).flags }
+    {
+        bytes::row_byte(self.row_bytes(), i, 5)
+    }
+
+    // An atomic row's source; the initial value for every other row.
+    pub fn atomic_source(&self, i: u16) -> Source
+        ensures { result.0 ≡ atomic_source (rows_in self.now.bytes) i }
+    {
+        bytes::atomic_source(self.row_bytes(), i)
+    }
+
+    // ---- dependencies
+
+    // Ruled out: one that gives how many a table may have; one that reads the header's count of rows.
+    pub fn dependencies(&self) -> u16
+        ensures { result ≡ (mode_in self.now.bytes).dependencies }
+    {
+        bytes::pair_at(part(&self.bytes, DEPENDS), 0)
+    }
+
+    // A row of dependency k, by its byte in the first of them; 0 for one that there is no slot for.
+    fn end_of(&self, at: u8, k: u16) -> u16
+        ensures { result ≡ get_or (tabulate (dependency_end (drop DEPENDS self.now.bytes) at) DEPENDENCIES) k 0 }
+    {
+        let i = k as usize;
+        if i < model::DEPENDENCIES {
+            return bytes::pair_at(
+                part(&self.bytes, DEPENDS),
+                (at as usize) + i * bytes::DEPENDENCY_BYTES,
+            );
         }
+        0
     }
-    false
-}
 
-// ---- of two agents
-
-// The place of an agent, zeros for one that there is no slot for.
-fn place(t: &Run, a: u8) -> [u16; 4]
-    ensures { IsPlace (places_in t.now) a result }
-{
-    if (a as usize) < model::AGENTS {
-        return scopes::read_place(t, a);
+    // The row that system-synchronizes-with another, and that other row, by dependency k.
+    // Ruled out: one that exchanges the two; one that reads what the next dependency says.
+    pub fn first_of(&self, k: u16) -> u16
+        ensures { result ≡ get_or (mode_in self.now.bytes).first k 0 }
+    {
+        self.end_of(2, k)
     }
-    [0; 4]
-}
 
-// Whether they share the scope. Their two places are read, and no other.
-pub fn shares(t: &Run, scope: u8, a: u8, b: u8) -> bool
-    ensures { result ≡ shares (places_in t.now) scope a b }
-{
-    let x = place(t, a);
-    let y = place(t, b);
-    scopes::shares_at(scope, a, b, x, y)
-}
+    pub fn second_of(&self, k: u16) -> u16
+        ensures { result ≡ get_or (mode_in self.now.bytes).second k 0 }
+    {
+        self.end_of(4, k)
+    }
 
-// Whether the agents of two rows share both rows' scopes.
-pub fn together(t: &Run, r: Row, q: Row) -> bool
-    ensures { result ≡ together (places_in t.now) r q }
-{
-    shares(t, r.scope, r.agent, q.agent) & shares(t, q.scope, r.agent, q.agent)
+    // Whether dependency k is of the rows x and y, in this order.
+    fn is_dependency(&self, x: u16, y: u16, k: u16) -> bool
+        ensures { result ≡ dependency (mode_in self.now.bytes) x y k }
+    {
+        (self.first_of(k) == x) & (self.second_of(k) == y)
+    }
+
+    // Whether a dependency is of the rows x and y: x system-synchronizes-with y.
+    // Ruled out: one that takes a dependency in either direction; one that leaves the last dependency out.
+    pub fn depends(&self, x: u16, y: u16) -> bool
+        ensures { result ≡ depends_of (mode_in self.now.bytes) x y }
+    {
+        for k in 0..self.dependencies() {
+            if self.is_dependency(x, y, k) {
+                return true;
+            }
+        }
+        false
+    }
+
+    // ---- of two agents
+
+    // The place of an agent, zeros for one that there is no slot for.
+    fn place(&self, a: u8) -> [u16; 4]
+        ensures { IsPlace (places_in self.now.bytes) a result }
+    {
+        if (a as usize) < model::AGENTS {
+            return scopes::read_place(&self.bytes, a);
+        }
+        [0; 4]
+    }
+
+    // Whether they share the scope. Their two places are read, and no other.
+    pub fn shares(&self, scope: u8, a: u8, b: u8) -> bool
+        ensures { result ≡ shares (places_in self.now.bytes) scope a b }
+    {
+        let x = self.place(a);
+        let y = self.place(b);
+        scopes::shares_at(scope, a, b, x, y)
+    }
+
+    // Whether the agents of two rows share both rows' scopes.
+    pub fn together(&self, r: Row, q: Row) -> bool
+        ensures { result ≡ together (places_in self.now.bytes) r q }
+    {
+        self.shares(r.scope, r.agent, q.agent) & self.shares(q.scope, r.agent, q.agent)
+    }
 }

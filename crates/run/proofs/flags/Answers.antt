@@ -1,6 +1,0 @@
-use Rattle.model.specs.Table.{row_of}
-use Rattle.run.proofs.flags.Goals as goal
-
-pub returns : goal.returns
-unfolding row_of
-returns c = cc

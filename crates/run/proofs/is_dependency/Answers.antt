@@ -1,7 +1,0 @@
-use Rattle.finite.specs.Logic.{◌and◌}
-use Rattle.model.specs.Table.{dependency}
-use Rattle.run.proofs.is_dependency.Goals as goal
-
-pub returns : goal.returns
-unfolding dependency ◌and◌
-returns c = cc

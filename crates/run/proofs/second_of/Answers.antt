@@ -1,7 +1,0 @@
-use Rattle.model.specs.Table.{dependency_to}
-use Rattle.run.specs.Layout.{mode_in}
-use Rattle.run.proofs.second_of.Goals as goal
-
-pub returns : goal.returns
-unfolding mode_in dependency_to
-returns c = cc

@@ -1,4 +1,0 @@
-use Rattle.run.proofs.shares.Goals as goal
-
-pub returns : goal.returns
-returns c = c.shares_at.ensures _ c.place-x.ensures c.place-y.ensures

@@ -1,7 +1,7 @@
 // M5: program order to and from a barrier, of the rows that carry a release to an acquire.
 ghost use Rattle.std.specs.Prelude.{◌≡◌, ◌<◌};
 ghost use Rattle.model.specs.Limits.{ROWS};
-ghost use Rattle.run.specs.Layout.{table_in};
+ghost use Rattle.run.specs.Layout.{table_of};
 ghost use Rattle.model.specs.Synchronizes.{leads, trails};
 ghost use Rattle.run_rows.specs.Forms.{lead_rows, trail_rows};
 
@@ -16,12 +16,12 @@ fn is_leading(a: usize, x: usize, r: Row, q: Row) -> bool
 }
 
 // M5: whether row x of a table is program-ordered after its barrier a, its class in a's semantics.
-pub fn leads_at(t: &Run, n: usize, a: usize, x: usize) -> bool
+pub fn leads_at(t: &Run, a: usize, x: usize) -> bool
     requires { (a < ROWS) × (x < ROWS) }
-    ensures { result ≡ leads (table_in t.now n) a x }
+    ensures { result ≡ leads (table_of t.now) a x }
 {
-    let r = run::row(t, a as u16);
-    let q = run::row(t, x as u16);
+    let r = t.row(a as u16);
+    let q = t.row(x as u16);
     is_leading(a, x, r, q)
 }
 
@@ -33,11 +33,11 @@ fn is_trailing(b: usize, y: usize, r: Row, q: Row) -> bool
 }
 
 // M5: whether row y of a table is program-ordered before its barrier b, its class in b's semantics.
-pub fn trails_at(t: &Run, n: usize, b: usize, y: usize) -> bool
+pub fn trails_at(t: &Run, b: usize, y: usize) -> bool
     requires { (b < ROWS) × (y < ROWS) }
-    ensures { result ≡ trails (table_in t.now n) b y }
+    ensures { result ≡ trails (table_of t.now) b y }
 {
-    let r = run::row(t, b as u16);
-    let q = run::row(t, y as u16);
+    let r = t.row(b as u16);
+    let q = t.row(y as u16);
     is_trailing(b, y, r, q)
 }

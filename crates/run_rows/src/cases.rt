@@ -44,9 +44,9 @@ pub fn concerns_of(s: u8, r: Row, k: u8) -> bool
 // Whether row i holds all of s.
 pub fn holds_at(t: &Run, s: u8, i: usize) -> bool
     requires { i < ROWS }
-    ensures { result ≡ holds_at (rows_in t.now) s i }
+    ensures { result ≡ holds_at (rows_in t.now.bytes) s i }
 {
-    door_rows::kinds::holds(run::classes(t, i as u16), s)
+    door_rows::kinds::holds(t.classes(i as u16), s)
 }
 
 // M6: whether the direct case of this number, of the three that go by rows, leads from the moment `from` of r to the moment `to` of q.

@@ -1,7 +1,7 @@
 // M1: the moments of a row, and program order between moments. Moment 3 × row + 0, 1 or 2 is the one before, at or after the row.
 ghost use Rattle.std.specs.Prelude.{◌≡◌, ◌*◌, ◌/◌, ◌%◌, ◌<◌};
 ghost use Rattle.model.specs.Limits.{ROWS};
-ghost use Rattle.run.specs.Layout.{table_in};
+ghost use Rattle.run.specs.Layout.{table_of};
 ghost use Rattle.model.specs.Moment.{availability_of, visibility_of, moment_of, moment_in, classes_of, program_ordered, program_order};
 
 use door_rows::pick;
@@ -63,19 +63,19 @@ pub fn is_ordered(n: usize, m: usize, k: usize, r: Row, q: Row) -> bool
 }
 
 // Program order of two moments of a table. Most pairs are told apart by their numbers or agents, and no whole row is read.
-pub fn ordered_at(t: &Run, n: usize, m: usize, k: usize) -> bool
+pub fn ordered_at(t: &Run, m: usize, k: usize) -> bool
     requires { (m < 3 * ROWS) × (k < 3 * ROWS) }
-    ensures { result ≡ program_order (table_in t.now n) m k }
+    ensures { result ≡ program_order (table_of t.now) m k }
 {
     if k <= m {
         return false;
     }
-    let a = run::agent(t, (m / 3) as u16);
-    let b = run::agent(t, (k / 3) as u16);
+    let a = t.agent((m / 3) as u16);
+    let b = t.agent((k / 3) as u16);
     if !(a == b) {
         return false;
     }
-    let r = run::row(t, (m / 3) as u16);
-    let q = run::row(t, (k / 3) as u16);
-    is_ordered(n, m, k, r, q)
+    let r = t.row((m / 3) as u16);
+    let q = t.row((k / 3) as u16);
+    is_ordered(t.rows, m, k, r, q)
 }

@@ -1,7 +1,7 @@
 // M3 and M4: mutually-ordered rows, and the row that ends a release sequence.
 ghost use Rattle.std.specs.Prelude.{◌≡◌, ◌<◌};
 ghost use Rattle.model.specs.Limits.{ROWS};
-ghost use Rattle.run.specs.Layout.{table_in};
+ghost use Rattle.run.specs.Layout.{table_of};
 ghost use Rattle.model.specs.Scope.{mutually};
 ghost use Rattle.model.specs.Synchronizes.{continues};
 ghost use Rattle.run_rows.specs.Forms.{end_rows};
@@ -10,17 +10,17 @@ use model::Row;
 use run::Run;
 
 // M3: whether rows i and j are mutually-ordered. Places are read for two atomics of one location only.
-pub fn mutual_at(t: &Run, n: usize, i: usize, j: usize) -> bool
+pub fn mutual_at(t: &Run, i: usize, j: usize) -> bool
     requires { (i < ROWS) × (j < ROWS) }
-    ensures { result ≡ mutually (table_in t.now n) i j }
+    ensures { result ≡ mutually (table_of t.now) i j }
 {
-    let r = run::row(t, i as u16);
-    let q = run::row(t, j as u16);
+    let r = t.row(i as u16);
+    let q = t.row(j as u16);
     let atomic = door_rows::kinds::is_atomic(r) & door_rows::kinds::is_atomic(q);
     if !(!(i == j) & (atomic & door_rows::scopes::same_location(r, q))) {
         return false;
     }
-    run::together(t, r, q)
+    t.together(r, q)
 }
 
 // M4: whether r, after the head, continues a sequence. Nothing else says what does.

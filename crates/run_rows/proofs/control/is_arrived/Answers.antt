@@ -15,5 +15,5 @@ loop-d-preserved c = (search rules, any_more _ _ c.loop-d.invariant.1 (sym c.arr
 
 pub returns : goal.returns
 returns c =
-    let e : c.loop-d.d ≡ c.args.n = omega arith in
+    let e : c.loop-d.d ≡ c.args.t.now.rows = omega arith in
     sym (rw e at c.loop-d.invariant.1)

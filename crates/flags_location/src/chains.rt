@@ -8,7 +8,7 @@ ghost use Rattle.finite.specs.Below.{any_below};
 ghost use Rattle.bits.specs.Matrix.{rel};
 ghost use Rattle.model.specs.Limits.{ROWS, WORK};
 ghost use Rattle.model.specs.Table.{row_of};
-ghost use Rattle.run.specs.Layout.{places_in, mode_in, rows_in, table_in};
+ghost use Rattle.run.specs.Layout.{places_in, mode_in, rows_in, table_of};
 ghost use Rattle.model.specs.Availability.{L3};
 ghost use Rattle.work_area.specs.Regions.{HAPPENS, MOMENTS};
 ghost use Rattle.flags_location.specs.Chains.{available_part, visible_part, may_avail, may_see, available_rows, visible_rows, widest, meet_in};
@@ -63,30 +63,30 @@ pub fn visible_part(s: Row) -> usize
 }
 
 // L3: row a is a first element of availability of x at the byte.
-fn available_at(t: &Run, n: usize, p: Asked, a: usize) -> bool
+fn available_at(t: &Run, p: Asked, a: usize) -> bool
     requires { (p.x < ROWS) × (a < ROWS) }
-    ensures { let row = row_of (rows_in t.now) in
-        result ≡ available_rows n p.x (row p.x) (3 * a + available_part (row a)) (row a) p.b }
+    ensures { let row = row_of (rows_in t.now.bytes) in
+        result ≡ available_rows t.now.rows p.x (row p.x) (3 * a + available_part (row a)) (row a) p.b }
 {
-    let r = run::row(t, p.x as u16);
-    let s = run::row(t, a as u16);
+    let r = t.row(p.x as u16);
+    let s = t.row(a as u16);
     let c = 3 * a + available_part(s);
     moments::availability_of(s, (c % 3) as u8)
-        & moments::is_ordered(n, 3 * p.x + 1, c, r, s)
+        & moments::is_ordered(t.rows, 3 * p.x + 1, c, r, s)
         & pairs::covers_of(s, r, p.b)
 }
 
 // L3: row v is a last element of visibility of y at the byte.
-fn visible_at(t: &Run, n: usize, p: Asked, v: usize) -> bool
+fn visible_at(t: &Run, p: Asked, v: usize) -> bool
     requires { (p.y < ROWS) × (v < ROWS) }
-    ensures { let row = row_of (rows_in t.now) in
-        result ≡ visible_rows n p.y (row p.y) (3 * v + visible_part (row v)) (row v) p.b }
+    ensures { let row = row_of (rows_in t.now.bytes) in
+        result ≡ visible_rows t.now.rows p.y (row p.y) (3 * v + visible_part (row v)) (row v) p.b }
 {
-    let q = run::row(t, p.y as u16);
-    let s = run::row(t, v as u16);
+    let q = t.row(p.y as u16);
+    let s = t.row(v as u16);
     let c = 3 * v + visible_part(s);
     moments::visibility_of(s, (c % 3) as u8)
-        & moments::is_ordered(n, c, 3 * p.y + 1, s, q)
+        & moments::is_ordered(t.rows, c, 3 * p.y + 1, s, q)
         & pairs::covers_of(s, q, p.b)
 }
 
@@ -108,24 +108,24 @@ fn widest(s: u8, u: u8) -> u8
 // Whether one domain of scope d holds the agents of rows x and y, that of row i beside the one, that of row j beside the other.
 fn meet_in(t: &Run, d: u8, p: Asked, i: usize, j: usize) -> bool
     requires { TwoOf ROWS p.x p.y × TwoOf ROWS i j }
-    ensures { let row = row_of (rows_in t.now) in
-        result ≡ meet_in (places_in t.now) d (row p.x) (row p.y) (row i) (row j) }
+    ensures { let row = row_of (rows_in t.now.bytes) in
+        result ≡ meet_in (places_in t.now.bytes) d (row p.x) (row p.y) (row i) (row j) }
 {
-    let a = run::agent(t, p.x as u16);
-    let b = run::agent(t, p.y as u16);
+    let a = t.agent(p.x as u16);
+    let b = t.agent(p.y as u16);
     (1 <= d)
-        & run::shares(t, d, a, b)
-        & run::shares(t, d, a, run::agent(t, i as u16))
-        & run::shares(t, d, b, run::agent(t, j as u16))
+        & t.shares(d, a, b)
+        & t.shares(d, a, t.agent(i as u16))
+        & t.shares(d, b, t.agent(j as u16))
 }
 
 // What row i makes available, row j makes visible.
-fn seen_at(t: &Run, n: usize, p: Asked, i: usize, j: usize, w: &[u64]) -> bool
-    requires { record { element : Element t.now n p.x p.y i w.now; last : j < n } }
-    ensures { result ≡ seen (table_in t.now n) p.x p.y i j }
+fn seen_at(t: &Run, p: Asked, i: usize, j: usize, w: &[u64]) -> bool
+    requires { record { element : Element t.now.bytes t.now.rows p.x p.y i w.now; last : j < t.now.rows } }
+    ensures { result ≡ seen (table_of t.now) p.x p.y i j }
 {
-    let s = run::row(t, i as u16);
-    let u = run::row(t, j as u16);
+    let s = t.row(i as u16);
+    let u = t.row(j as u16);
     if !happens::happens_bit(w, 3 * i + available_part(s), 3 * j + visible_part(u)) {
         return false;
     }
@@ -138,37 +138,37 @@ fn seen_at(t: &Run, n: usize, p: Asked, i: usize, j: usize, w: &[u64]) -> bool
 // availability moment happens before one of its own.
 fn may_show(t: &Run, y: usize, i: usize, v: usize, w: &[u64]) -> bool
     requires { ThreeOf ROWS y i v × (WORK ≤ length w.now) }
-    ensures { let rows = rows_in t.now in
+    ensures { let rows = rows_in t.now.bytes in
         let before = rel w.now HAPPENS MOMENTS (3 * i + available_part (row_of rows i)) in
-        result ≡ (((mode_in t.now).chains or before (3 * v) or before (3 * v + 2)) and may_see rows (row_of rows y) v) }
+        result ≡ (((mode_in t.now.bytes).chains or before (3 * v) or before (3 * v + 2)) and may_see rows (row_of rows y) v) }
 {
-    let agent = run::agent(t, v as u16);
-    let flags = run::flags(t, v as u16);
-    if !((agent == run::agent(t, y as u16)) & door_rows::kinds::meets(flags, VISIBLE)) {
+    let agent = t.agent(v as u16);
+    let flags = t.flags(v as u16);
+    if !((agent == t.agent(y as u16)) & door_rows::kinds::meets(flags, VISIBLE)) {
         return false;
     }
-    let c = 3 * i + available_part(run::row(t, i as u16));
-    run::chains(t) | happens::happens_bit(w, c, 3 * v) | happens::happens_bit(w, c, 3 * v + AFTER)
+    let c = 3 * i + available_part(t.row(i as u16));
+    t.chains() | happens::happens_bit(w, c, 3 * v) | happens::happens_bit(w, c, 3 * v + AFTER)
 }
 
 // A visibility chain of more than one element from row j to row v shows what row i makes available.
-fn starts_with(t: &Run, n: usize, p: Asked, i: usize, v: usize, j: usize, w: &[u64]) -> bool
-    requires { record { element : Element t.now n p.x p.y i w.now; last : v < n; next : j < n; chains : (mode_in t.now).chains ≡ true } }
-    ensures { result ≡ starts_with (table_in t.now n) p.x p.y i v j }
+fn starts_with(t: &Run, p: Asked, i: usize, v: usize, j: usize, w: &[u64]) -> bool
+    requires { record { element : Element t.now.bytes t.now.rows p.x p.y i w.now; last : v < t.now.rows; next : j < t.now.rows; chains : (mode_in t.now.bytes).chains ≡ true } }
+    ensures { result ≡ starts_with (table_of t.now) p.x p.y i v j }
 {
     if !work_area::grid::REACH_IN.get(w, j, v) {
         return false;
     }
-    seen_at(t, n, p, i, j, w)
+    seen_at(t, p, i, j, w)
 }
 
 // Some visibility chain of more than one element that ends with row v shows it.
-fn some_start(t: &Run, n: usize, p: Asked, i: usize, v: usize, w: &[u64]) -> bool
-    requires { record { element : Element t.now n p.x p.y i w.now; last : v < n; chains : (mode_in t.now).chains ≡ true } }
-    ensures { result ≡ any_below n (starts_with (table_in t.now n) p.x p.y i v) }
+fn some_start(t: &Run, p: Asked, i: usize, v: usize, w: &[u64]) -> bool
+    requires { record { element : Element t.now.bytes t.now.rows p.x p.y i w.now; last : v < t.now.rows; chains : (mode_in t.now.bytes).chains ≡ true } }
+    ensures { result ≡ any_below t.now.rows (starts_with (table_of t.now) p.x p.y i v) }
 {
-    for j in 0..n {
-        if starts_with(t, n, p, i, v, j, w) {
+    for j in 0..t.rows {
+        if starts_with(t, p, i, v, j, w) {
             return true;
         }
     }
@@ -176,41 +176,41 @@ fn some_start(t: &Run, n: usize, p: Asked, i: usize, v: usize, w: &[u64]) -> boo
 }
 
 // Some visibility chain that ends with row v shows what row i makes available.
-fn starts_at(t: &Run, n: usize, p: Asked, i: usize, v: usize, w: &[u64]) -> bool
-    requires { record { element : Element t.now n p.x p.y i w.now; last : v < n } }
-    ensures { let table = table_in t.now n in
-        result ≡ (seen table p.x p.y i v or ((mode_in t.now).chains and any_below n (starts_with table p.x p.y i v))) }
+fn starts_at(t: &Run, p: Asked, i: usize, v: usize, w: &[u64]) -> bool
+    requires { record { element : Element t.now.bytes t.now.rows p.x p.y i w.now; last : v < t.now.rows } }
+    ensures { let table = table_of t.now in
+        result ≡ (seen table p.x p.y i v or ((mode_in t.now.bytes).chains and any_below t.now.rows (starts_with table p.x p.y i v))) }
 {
-    if seen_at(t, n, p, i, v, w) {
+    if seen_at(t, p, i, v, w) {
         return true;
     }
-    if !run::chains(t) {
+    if !t.chains() {
         return false;
     }
-    some_start(t, n, p, i, v, w)
+    some_start(t, p, i, v, w)
 }
 
 // L3: y sees by way of row v what row i makes available.
-fn shown_in(t: &Run, n: usize, p: Asked, i: usize, v: usize, w: &[u64]) -> bool
-    requires { record { element : Element t.now n p.x p.y i w.now; last : v < n } }
-    ensures { result ≡ shown_by (table_in t.now n) p.x p.y p.b i v }
+fn shown_in(t: &Run, p: Asked, i: usize, v: usize, w: &[u64]) -> bool
+    requires { record { element : Element t.now.bytes t.now.rows p.x p.y i w.now; last : v < t.now.rows } }
+    ensures { result ≡ shown_by (table_of t.now) p.x p.y p.b i v }
 {
     if !may_show(t, p.y, i, v, w) {
         return false;
     }
-    if !visible_at(t, n, p, v) {
+    if !visible_at(t, p, v) {
         return false;
     }
-    starts_at(t, n, p, i, v, w)
+    starts_at(t, p, i, v, w)
 }
 
 // No row after y is a last element.
-fn some_shown(t: &Run, n: usize, p: Asked, i: usize, w: &[u64]) -> bool
-    requires { Element t.now n p.x p.y i w.now }
-    ensures { result ≡ any_below n (shown_by (table_in t.now n) p.x p.y p.b i) }
+fn some_shown(t: &Run, p: Asked, i: usize, w: &[u64]) -> bool
+    requires { Element t.now.bytes t.now.rows p.x p.y i w.now }
+    ensures { result ≡ any_below t.now.rows (shown_by (table_of t.now) p.x p.y p.b i) }
 {
     for v in 0..p.y + 1 {
-        if shown_in(t, n, p, i, v, w) {
+        if shown_in(t, p, i, v, w) {
             return true;
         }
     }
@@ -218,11 +218,11 @@ fn some_shown(t: &Run, n: usize, p: Asked, i: usize, w: &[u64]) -> bool
 }
 
 // y meets at once what row i makes available.
-fn met_at(t: &Run, n: usize, p: Asked, i: usize, w: &[u64]) -> bool
-    requires { Element t.now n p.x p.y i w.now }
-    ensures { result ≡ met_at_once (table_in t.now n) p.x p.y i }
+fn met_at(t: &Run, p: Asked, i: usize, w: &[u64]) -> bool
+    requires { Element t.now.bytes t.now.rows p.x p.y i w.now }
+    ensures { result ≡ met_at_once (table_of t.now) p.x p.y i }
 {
-    let s = run::row(t, i as u16);
+    let s = t.row(i as u16);
     if !happens::happens_bit(w, 3 * i + available_part(s), 3 * p.y + 1) {
         return false;
     }
@@ -230,15 +230,15 @@ fn met_at(t: &Run, n: usize, p: Asked, i: usize, w: &[u64]) -> bool
 }
 
 // L3: y meets what row i makes available: a reader by way of a visibility chain, any other at once.
-fn ends_at(t: &Run, n: usize, p: Asked, i: usize, w: &[u64]) -> bool
-    requires { Element t.now n p.x p.y i w.now }
-    ensures { result ≡ ends_at (table_in t.now n) p.x p.y p.b i }
+fn ends_at(t: &Run, p: Asked, i: usize, w: &[u64]) -> bool
+    requires { Element t.now.bytes t.now.rows p.x p.y i w.now }
+    ensures { result ≡ ends_at (table_of t.now) p.x p.y p.b i }
 {
-    let q = run::row(t, p.y as u16);
+    let q = t.row(p.y as u16);
     if door_rows::kinds::reads(q) {
-        return some_shown(t, n, p, i, w);
+        return some_shown(t, p, i, w);
     }
-    met_at(t, n, p, i, w)
+    met_at(t, p, i, w)
 }
 
 // ---- what x makes available
@@ -246,32 +246,32 @@ fn ends_at(t: &Run, n: usize, p: Asked, i: usize, w: &[u64]) -> bool
 // Whether row i may make x available: it has x's agent and the flag.
 fn may_avail(t: &Run, x: usize, i: usize) -> bool
     requires { (x < ROWS) × (i < ROWS) }
-    ensures { let rows = rows_in t.now in
+    ensures { let rows = rows_in t.now.bytes in
         result ≡ may_avail rows (row_of rows x) i }
 {
-    let agent = run::agent(t, i as u16);
-    let flags = run::flags(t, i as u16);
-    (run::agent(t, x as u16) == agent) & door_rows::kinds::meets(flags, AVAILABLE)
+    let agent = t.agent(i as u16);
+    let flags = t.flags(i as u16);
+    (t.agent(x as u16) == agent) & door_rows::kinds::meets(flags, AVAILABLE)
 }
 
 // An availability chain of more than one element from row a to row c makes available what y meets.
-fn ends_with(t: &Run, n: usize, p: Asked, a: usize, c: usize, w: &[u64]) -> bool
-    requires { record { pair : Pair t.now n p.x p.y w.now; row : a < n; next : c < n; chains : (mode_in t.now).chains ≡ true } }
-    ensures { result ≡ ends_with (table_in t.now n) p.x p.y p.b a c }
+fn ends_with(t: &Run, p: Asked, a: usize, c: usize, w: &[u64]) -> bool
+    requires { record { pair : Pair t.now.bytes t.now.rows p.x p.y w.now; row : a < t.now.rows; next : c < t.now.rows; chains : (mode_in t.now.bytes).chains ≡ true } }
+    ensures { result ≡ ends_with (table_of t.now) p.x p.y p.b a c }
 {
     if !work_area::grid::REACH_OUT.get(w, a, c) {
         return false;
     }
-    ends_at(t, n, p, c, w)
+    ends_at(t, p, c, w)
 }
 
 // Some availability chain of more than one element that begins with row a makes available what y meets.
-fn some_end(t: &Run, n: usize, p: Asked, a: usize, w: &[u64]) -> bool
-    requires { record { pair : Pair t.now n p.x p.y w.now; row : a < n; chains : (mode_in t.now).chains ≡ true } }
-    ensures { result ≡ any_below n (ends_with (table_in t.now n) p.x p.y p.b a) }
+fn some_end(t: &Run, p: Asked, a: usize, w: &[u64]) -> bool
+    requires { record { pair : Pair t.now.bytes t.now.rows p.x p.y w.now; row : a < t.now.rows; chains : (mode_in t.now.bytes).chains ≡ true } }
+    ensures { result ≡ any_below t.now.rows (ends_with (table_of t.now) p.x p.y p.b a) }
 {
-    for c in 0..n {
-        if ends_with(t, n, p, a, c, w) {
+    for c in 0..t.rows {
+        if ends_with(t, p, a, c, w) {
             return true;
         }
     }
@@ -279,41 +279,41 @@ fn some_end(t: &Run, n: usize, p: Asked, a: usize, w: &[u64]) -> bool
 }
 
 // Some availability chain that begins with row a makes available what y meets.
-fn ends_from(t: &Run, n: usize, p: Asked, a: usize, w: &[u64]) -> bool
-    requires { Element t.now n p.x p.y a w.now }
-    ensures { let table = table_in t.now n in
-        result ≡ (ends_at table p.x p.y p.b a or ((mode_in t.now).chains and any_below n (ends_with table p.x p.y p.b a))) }
+fn ends_from(t: &Run, p: Asked, a: usize, w: &[u64]) -> bool
+    requires { Element t.now.bytes t.now.rows p.x p.y a w.now }
+    ensures { let table = table_of t.now in
+        result ≡ (ends_at table p.x p.y p.b a or ((mode_in t.now.bytes).chains and any_below t.now.rows (ends_with table p.x p.y p.b a))) }
 {
-    if ends_at(t, n, p, a, w) {
+    if ends_at(t, p, a, w) {
         return true;
     }
-    if !run::chains(t) {
+    if !t.chains() {
         return false;
     }
-    some_end(t, n, p, a, w)
+    some_end(t, p, a, w)
 }
 
 // L3: y meets what a chain from the first element a makes available.
-fn carried_in(t: &Run, n: usize, p: Asked, a: usize, w: &[u64]) -> bool
-    requires { record { pair : Pair t.now n p.x p.y w.now; row : a < n } }
-    ensures { result ≡ carried_by (table_in t.now n) p.x p.y p.b a }
+fn carried_in(t: &Run, p: Asked, a: usize, w: &[u64]) -> bool
+    requires { record { pair : Pair t.now.bytes t.now.rows p.x p.y w.now; row : a < t.now.rows } }
+    ensures { result ≡ carried_by (table_of t.now) p.x p.y p.b a }
 {
     if !may_avail(t, p.x, a) {
         return false;
     }
-    if !available_at(t, n, p, a) {
+    if !available_at(t, p, a) {
         return false;
     }
-    ends_from(t, n, p, a, w)
+    ends_from(t, p, a, w)
 }
 
 // No row before x is a first element.
-fn some_carried(t: &Run, n: usize, p: Asked, w: &[u64]) -> bool
-    requires { Pair t.now n p.x p.y w.now }
-    ensures { result ≡ any_below n (carried_by (table_in t.now n) p.x p.y p.b) }
+fn some_carried(t: &Run, p: Asked, w: &[u64]) -> bool
+    requires { Pair t.now.bytes t.now.rows p.x p.y w.now }
+    ensures { result ≡ any_below t.now.rows (carried_by (table_of t.now) p.x p.y p.b) }
 {
-    for a in p.x..n {
-        if carried_in(t, n, p, a, w) {
+    for a in p.x..t.rows {
+        if carried_in(t, p, a, w) {
             return true;
         }
     }
@@ -321,14 +321,14 @@ fn some_carried(t: &Run, n: usize, p: Asked, w: &[u64]) -> bool
 }
 
 // L3.
-pub fn l3(t: &Run, n: usize, p: Asked, w: &[u64]) -> bool
-    requires { Pair t.now n p.x p.y w.now }
-    ensures { result ≡ L3 (table_in t.now n) p.x p.y p.b }
+pub fn l3(t: &Run, p: Asked, w: &[u64]) -> bool
+    requires { Pair t.now.bytes t.now.rows p.x p.y w.now }
+    ensures { result ≡ L3 (table_of t.now) p.x p.y p.b }
 {
-    let r = run::row(t, p.x as u16);
-    let q = run::row(t, p.y as u16);
+    let r = t.row(p.x as u16);
+    let q = t.row(p.y as u16);
     if !pairs::public_write(r, q) {
         return false;
     }
-    some_carried(t, n, p, w)
+    some_carried(t, p, w)
 }

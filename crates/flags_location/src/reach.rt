@@ -4,7 +4,7 @@ ghost use Rattle.bits.specs.Stage.{Made};
 ghost use Rattle.model.specs.Limits.{ROWS};
 ghost use Rattle.model.specs.Row.{meets};
 ghost use Rattle.model.specs.Table.{row_of};
-ghost use Rattle.run.specs.Layout.{places_in, rows_in, table_in};
+ghost use Rattle.run.specs.Layout.{places_in, rows_in, table_of};
 ghost use Rattle.model.specs.Availability.{broadens, narrows};
 ghost use Rattle.work_area.specs.Regions.{REACH_OUT, REACH_OUT_END, REACH_IN, REACH_IN_END, GRID};
 ghost use Rattle.work_area.specs.State.{Ordered};
@@ -21,31 +21,31 @@ use run_rows::moments;
 // Whether row i has a flag of these.
 fn has_flag(t: &Run, i: usize, flags: u8) -> bool
     requires { i < ROWS }
-    ensures { result ≡ meets (row_of (rows_in t.now) i).flags flags }
+    ensures { result ≡ meets (row_of (rows_in t.now.bytes) i).flags flags }
 {
-    door_rows::kinds::meets(run::flags(t, i as u16), flags)
+    door_rows::kinds::meets(t.flags(i as u16), flags)
 }
 
 // Whether u has a broader scope than s, and is performed in the instance of s's scope. Places are read for a broader one only.
 fn is_broader(t: &Run, s: Row, u: Row) -> bool
-    ensures { result ≡ broader_rows (places_in t.now) s u }
+    ensures { result ≡ broader_rows (places_in t.now.bytes) s u }
 {
     if u.scope <= s.scope {
         return false;
     }
-    run::shares(t, s.scope, s.agent, u.agent)
+    t.shares(s.scope, s.agent, u.agent)
 }
 
 // Whether row c may come right after row a in an availability chain. Most rows make nothing available, as one byte tells.
-fn broadens_at(t: &Run, n: usize, a: usize, c: usize, w: &[u64]) -> bool
-    requires { GivenRows Ordered t.now n a c w.now }
-    ensures { result ≡ broadens (table_in t.now n) a c }
+fn broadens_at(t: &Run, a: usize, c: usize, w: &[u64]) -> bool
+    requires { GivenRows Ordered t.now.bytes t.now.rows a c w.now }
+    ensures { result ≡ broadens (table_of t.now) a c }
 {
     if !has_flag(t, c, chains::AVAILABLE) {
         return false;
     }
-    let s = run::row(t, a as u16);
-    let u = run::row(t, c as u16);
+    let s = t.row(a as u16);
+    let u = t.row(c as u16);
     let k = chains::available_part(s);
     let m = chains::available_part(u);
     moments::availability_of(u, m as u8)
@@ -54,15 +54,15 @@ fn broadens_at(t: &Run, n: usize, a: usize, c: usize, w: &[u64]) -> bool
 }
 
 // Whether row v may come right after row j in a visibility chain.
-fn narrows_at(t: &Run, n: usize, j: usize, v: usize, w: &[u64]) -> bool
-    requires { GivenRows Ordered t.now n j v w.now }
-    ensures { result ≡ narrows (table_in t.now n) j v }
+fn narrows_at(t: &Run, j: usize, v: usize, w: &[u64]) -> bool
+    requires { GivenRows Ordered t.now.bytes t.now.rows j v w.now }
+    ensures { result ≡ narrows (table_of t.now) j v }
 {
     if !has_flag(t, j, chains::VISIBLE) {
         return false;
     }
-    let u = run::row(t, j as u16);
-    let s = run::row(t, v as u16);
+    let u = t.row(j as u16);
+    let s = t.row(v as u16);
     let k = chains::visible_part(u);
     let m = chains::visible_part(s);
     moments::visibility_of(u, k as u8)
@@ -73,28 +73,28 @@ fn narrows_at(t: &Run, n: usize, j: usize, v: usize, w: &[u64]) -> bool
 // ---- all steps
 
 // The steps of availability chains, from an element to the next.
-fn fill_out(t: &Run, n: usize, w: &mut [u64])
-    requires { Given Ordered t.now n w.old }
-    ensures { Made REACH_OUT REACH_OUT_END REACH_OUT GRID n (broadens (table_in t.now n)) w.old w.new }
+fn fill_out(t: &Run, w: &mut [u64])
+    requires { Given Ordered t.now.bytes t.now.rows w.old }
+    ensures { Made REACH_OUT REACH_OUT_END REACH_OUT GRID t.now.rows (broadens (table_of t.now)) w.old w.new }
 {
     bits::clear(w, work_area::REACH_OUT, work_area::REACH_OUT_END);
-    for a in 0..n {
-        for c in 0..n {
-            let b = broadens_at(t, n, a, c, w);
+    for a in 0..t.rows {
+        for c in 0..t.rows {
+            let b = broadens_at(t, a, c, w);
             work_area::grid::REACH_OUT.put_if(w, a, c, b);
         }
     }
 }
 
 // The steps of visibility chains.
-fn fill_in(t: &Run, n: usize, w: &mut [u64])
-    requires { Given Ordered t.now n w.old }
-    ensures { Made REACH_IN REACH_IN_END REACH_IN GRID n (narrows (table_in t.now n)) w.old w.new }
+fn fill_in(t: &Run, w: &mut [u64])
+    requires { Given Ordered t.now.bytes t.now.rows w.old }
+    ensures { Made REACH_IN REACH_IN_END REACH_IN GRID t.now.rows (narrows (table_of t.now)) w.old w.new }
 {
     bits::clear(w, work_area::REACH_IN, work_area::REACH_IN_END);
-    for j in 0..n {
-        for v in 0..n {
-            let b = narrows_at(t, n, j, v, w);
+    for j in 0..t.rows {
+        for v in 0..t.rows {
+            let b = narrows_at(t, j, v, w);
             work_area::grid::REACH_IN.put_if(w, j, v, b);
         }
     }
@@ -104,15 +104,15 @@ fn fill_in(t: &Run, n: usize, w: &mut [u64])
 
 // From the first element of a chain to its last; on a device without chains there is nothing to do, and nothing is written.
 // Ruled out: one that lets a chain go on with an equal scope; one that leaves out what three elements make together.
-pub fn make_reach(t: &Run, n: usize, w: &mut [u64])
-    requires { Given Ordered t.now n w.old }
-    ensures { MadeReach (table_in t.now n) n w.old w.new }
+pub fn make_reach(t: &Run, w: &mut [u64])
+    requires { Given Ordered t.now.bytes t.now.rows w.old }
+    ensures { MadeReach (table_of t.now) t.now.rows w.old w.new }
 {
-    if !run::chains(t) {
+    if !t.chains() {
         return;
     }
-    fill_out(t, n, w);
-    work_area::grid::REACH_OUT.close(w, n);
-    fill_in(t, n, w);
-    work_area::grid::REACH_IN.close(w, n);
+    fill_out(t, w);
+    work_area::grid::REACH_OUT.close(w, t.rows);
+    fill_in(t, w);
+    work_area::grid::REACH_IN.close(w, t.rows);
 }

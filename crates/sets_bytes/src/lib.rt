@@ -3,7 +3,7 @@
 
 ghost use Rattle.std.specs.Prelude.{◌≡◌, ◌^◌, ◌≤◌, ◌<◌, length};
 ghost use Rattle.model.specs.Limits.{ROWS, WORK, LONGEST};
-ghost use Rattle.run.specs.Layout.{table_in};
+ghost use Rattle.run.specs.Layout.{table_of};
 ghost use Rattle.sets_of_table.specs.Fit.{Fit};
 ghost use Rattle.finite.specs.Several.{TwoOf};
 ghost use Rattle.sets_bytes.specs.Masks.{Mask, shared_bit, moved_bit, Adds};
@@ -14,9 +14,9 @@ use sets_of_table::fields;
 const MASKS: u64 = 65536;
 
 // The bytes of x that y has too.
-pub fn shared(t: &Run, n: usize, x: usize, y: usize) -> u64
-    requires { (x < n) × (y < n) × Fit (table_in t.now n) }
-    ensures { Mask (shared_bit (table_in t.now n) x y) result }
+pub fn shared(t: &Run, x: usize, y: usize) -> u64
+    requires { (x < t.now.rows) × (y < t.now.rows) × Fit (table_of t.now) }
+    ensures { Mask (shared_bit (table_of t.now) x y) result }
 {
     let start = fields::start(t, x);
     let end = fields::end(t, x);
@@ -31,9 +31,9 @@ pub fn shared(t: &Run, n: usize, x: usize, y: usize) -> u64
 }
 
 // The mask m of bytes of x as bits from z's start.
-pub fn moved(t: &Run, n: usize, m: u64, x: usize, z: usize) -> u64
-    requires { TwoOf n x z × (m < 2 ^ LONGEST) × Fit (table_in t.now n) }
-    ensures { Mask (moved_bit (table_in t.now n) m x z) result }
+pub fn moved(t: &Run, m: u64, x: usize, z: usize) -> u64
+    requires { TwoOf t.now.rows x z × (m < 2 ^ LONGEST) × Fit (table_of t.now) }
+    ensures { Mask (moved_bit (table_of t.now) m x z) result }
 {
     let a = fields::start(t, x);
     let b = fields::start(t, z);

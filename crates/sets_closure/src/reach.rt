@@ -2,7 +2,7 @@
 ghost use Rattle.std.specs.Prelude.{◌≡◌, true, not, ℕ, ◌≤◌, ◌<◌, length, eqb};
 ghost use Rattle.finite.specs.Logic.{◌and◌, ◌or◌};
 ghost use Rattle.model.specs.Limits.{ROWS, WORK};
-ghost use Rattle.run.specs.Layout.{table_in};
+ghost use Rattle.run.specs.Layout.{table_of};
 ghost use Rattle.sets_of_rows.specs.declared.Set.{Set};
 ghost use Rattle.sets_of_rows.specs.Member.{in_set};
 ghost use Rattle.sets_of_rows.specs.Rows.{Rows};
@@ -16,11 +16,11 @@ use sets_of_rows::{Set, kept};
 
 // The rows to which direct cases lead from node h: synchronizes-with, release rows and, from an acquire row, any row after it that the
 // class set concerns, and dependencies.
-fn direct(t: &Run, n: usize, s: &[u64], k: Concerned, h: usize, w: &[u64]) -> Set
-    requires { (h < n) × Given (table_in t.now n) n s.now w.now }
-    ensures { (c : ℕ) (ends : Set) → Asking (table_in t.now n) n c ends k w.now → Rows n (own_of (table_in t.now n) c 0 h) result }
+fn direct(t: &Run, s: &[u64], k: Concerned, h: usize, w: &[u64]) -> Set
+    requires { (h < t.now.rows) × Given (table_of t.now) t.now.rows s.now w.now }
+    ensures { (c : ℕ) (ends : Set) → Asking (table_of t.now) t.now.rows c ends k w.now → Rows t.now.rows (own_of (table_of t.now) c 0 h) result }
 {
-    let after = sets_of_table::ask::after(t, n, s, h);
+    let after = sets_of_table::ask::after(t, s, h);
     let sync = (kept::get(w, work_area::SYNC, h) & k.acquires).only_if(k.releases.has(h));
     let releases = (after & k.releases).only_if(k.at.has(h));
     let taking = (after & k.at).only_if(k.acquires.has(h));
@@ -28,14 +28,14 @@ fn direct(t: &Run, n: usize, s: &[u64], k: Concerned, h: usize, w: &[u64]) -> Se
 }
 
 // What direct cases lead to from node h.
-fn put_direct(t: &Run, n: usize, s: &[u64], k: Concerned, h: usize, w: &mut [u64])
-    requires { (h < n) × Given (table_in t.now n) n s.now w.old }
-    ensures { PutDirect (table_in t.now n) n k h w.old w.new }
+fn put_direct(t: &Run, s: &[u64], k: Concerned, h: usize, w: &mut [u64])
+    requires { (h < t.now.rows) × Given (table_of t.now) t.now.rows s.now w.old }
+    ensures { PutDirect (table_of t.now) t.now.rows k h w.old w.new }
 {
-    let to = direct(t, n, s, k, h, w);
+    let to = direct(t, s, k, h, w);
     let acquires = k.acquires.has(h);
-    let onward = sets_of_table::ask::onward(t, n, s, h);
-    let after = sets_of_table::ask::after(t, n, s, h);
+    let onward = sets_of_table::ask::onward(t, s, h);
+    let after = sets_of_table::ask::after(t, s, h);
     let visible = (onward & k.visible).only_if(acquires);
     let available = (after & k.available).only_if(acquires);
     kept::put(w, sets_grids::REACH_AT, h, to);
@@ -57,12 +57,12 @@ fn take_in(h: usize, j: usize, w: &mut [u64])
 }
 
 // Direct cases from every node.
-fn put_all_direct(t: &Run, n: usize, s: &[u64], k: Concerned, w: &mut [u64])
-    requires { ((j : ℕ) → in_set k.nodes j ≡ true → j < n) × Given (table_in t.now n) n s.now w.old }
-    ensures { PutsAll (table_in t.now n) n k w.old w.new }
+fn put_all_direct(t: &Run, s: &[u64], k: Concerned, w: &mut [u64])
+    requires { ((j : ℕ) → in_set k.nodes j ≡ true → j < t.now.rows) × Given (table_of t.now) t.now.rows s.now w.old }
+    ensures { PutsAll (table_of t.now) t.now.rows k w.old w.new }
 {
     for h in k.nodes {
-        put_direct(t, n, s, k, h, w);
+        put_direct(t, s, k, h, w);
     }
 }
 
@@ -123,19 +123,10 @@ fn close(n: usize, nodes: Set, down: bool, w: &mut [u64])
 
 // REACH_AT, REACH_VISIBLE and REACH_AVAILABLE of the nodes of the class set c; `down` says whether synchronizes-with and dependencies lead
 // down the page.
-pub fn fill_reach(
-    t: &Run,
-    n: usize,
-    s: &[u64],
-    c: usize,
-    ends: Set,
-    k: Concerned,
-    down: bool,
-    w: &mut [u64],
-)
-    requires { Asks (table_in t.now n) n c ends k s.now w.old }
-    ensures { MadeReach (table_in t.now n) n c ends w.old w.new }
+pub fn fill_reach(t: &Run, s: &[u64], c: usize, ends: Set, k: Concerned, down: bool, w: &mut [u64])
+    requires { Asks (table_of t.now) t.now.rows c ends k s.now w.old }
+    ensures { MadeReach (table_of t.now) t.now.rows c ends w.old w.new }
 {
-    put_all_direct(t, n, s, k, w);
-    close(n, k.nodes, down, w);
+    put_all_direct(t, s, k, w);
+    close(t.rows, k.nodes, down, w);
 }

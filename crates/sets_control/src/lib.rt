@@ -5,7 +5,7 @@ ghost use Rattle.std.specs.Prelude.{◌≡◌, true, ℕ, ◌+◌, ◌≤◌, �
 ghost use Rattle.model.specs.Row.{control};
 ghost use Rattle.model.specs.Table.{row_of};
 ghost use Rattle.model.specs.Synchronizes.{joins};
-ghost use Rattle.run.specs.Layout.{rows_in, table_in};
+ghost use Rattle.run.specs.Layout.{rows_in, table_of};
 ghost use Rattle.sets_of_rows.specs.Member.{in_set};
 ghost use Rattle.sets_of_rows.specs.Rows.{Rows};
 ghost use Rattle.sets_of_table.specs.Known.{Opened};
@@ -21,9 +21,9 @@ use sets_of_rows::{Set, kept};
 use sets_of_table::fields;
 
 // The control barriers of c's instance.
-fn instance(t: &Run, n: usize, s: &[u64], c: usize) -> Set
-    requires { (c < n) × Opened (table_in t.now n) n s.now }
-    ensures { Rows n (of_instance (table_in t.now n) c) result }
+fn instance(t: &Run, s: &[u64], c: usize) -> Set
+    requires { (c < t.now.rows) × Opened (table_of t.now) t.now.rows s.now }
+    ensures { Rows t.now.rows (of_instance (table_of t.now) c) result }
 {
     let name = fields::start(t, c);
     let mut all = Set::none();
@@ -35,45 +35,45 @@ fn instance(t: &Run, n: usize, s: &[u64], c: usize) -> Set
 }
 
 // The rows that join the control barrier c: others of its instance, of agents that share its execution scope.
-fn joining(t: &Run, n: usize, s: &[u64], c: usize) -> Set
-    requires { (c < n) × (control (row_of (rows_in t.now) c) ≡ true) × Opened (table_in t.now n) n s.now }
-    ensures { Rows n (joins (table_in t.now n) c) result }
+fn joining(t: &Run, s: &[u64], c: usize) -> Set
+    requires { (c < t.now.rows) × (control (row_of (rows_in t.now.bytes) c) ≡ true) × Opened (table_of t.now) t.now.rows s.now }
+    ensures { Rows t.now.rows (joins (table_of t.now) c) result }
 {
-    let share = sets_of_table::ask::sharing(t, n, s, c, fields::class(t, c));
-    (instance(t, n, s, c) & share).without(c)
+    let share = sets_of_table::ask::sharing(t, s, c, fields::class(t, c));
+    (instance(t, s, c) & share).without(c)
 }
 
 // The barriers that one of the rows d is, or comes before.
-fn arrivals(t: &Run, n: usize, s: &[u64], d: Set) -> Set
-    requires { ((k : ℕ) → in_set d k ≡ true → k < n) × Opened (table_in t.now n) n s.now }
-    ensures { Rows n (arrived (table_in t.now n) d) result }
+fn arrivals(t: &Run, s: &[u64], d: Set) -> Set
+    requires { ((k : ℕ) → in_set d k ≡ true → k < t.now.rows) × Opened (table_of t.now) t.now.rows s.now }
+    ensures { Rows t.now.rows (arrived (table_of t.now) d) result }
 {
     let mut all = Set::none();
     for k in d {
-        all |= sets_of_table::ask::onward(t, n, s, k);
+        all |= sets_of_table::ask::onward(t, s, k);
     }
     all & sets_of_table::rows(s, sets_of_table::BARRIER)
 }
 
 // The barriers that arrive where the control barrier c is joined; none where c is no control barrier.
-fn passes_to(t: &Run, n: usize, s: &[u64], c: usize) -> Set
-    requires { (c < n) × Opened (table_in t.now n) n s.now }
-    ensures { Rows n (passes_to (table_in t.now n) c) result }
+fn passes_to(t: &Run, s: &[u64], c: usize) -> Set
+    requires { (c < t.now.rows) × Opened (table_of t.now) t.now.rows s.now }
+    ensures { Rows t.now.rows (passes_to (table_of t.now) c) result }
 {
     if kept::get(s, sets_of_table::BY_KIND, kinds::CONTROL as usize).has(c) {
-        return arrivals(t, n, s, joining(t, n, s, c));
+        return arrivals(t, s, joining(t, s, c));
     }
     Set::none()
 }
 
 // Row a, where `passing` has by agent what the control barriers below it pass to: a control barrier joins them, and a barrier gets what
 // they pass to.
-fn pass_row(t: &Run, n: usize, s: &[u64], a: usize, passing: &mut [u64], w: &mut [u64])
-    requires { (a < n) × Given (table_in t.now n) n s.now w.old × Passing (table_in t.now n) n (a + 1) passing.old w.old }
-    ensures { Passes (table_in t.now n) n a passing.old passing.new w.old w.new }
+fn pass_row(t: &Run, s: &[u64], a: usize, passing: &mut [u64], w: &mut [u64])
+    requires { (a < t.now.rows) × Given (table_of t.now) t.now.rows s.now w.old × Passing (table_of t.now) t.now.rows (a + 1) passing.old w.old }
+    ensures { Passes (table_of t.now) t.now.rows a passing.old passing.new w.old w.new }
 {
     let agent = fields::agent(t, a);
-    let own = passes_to(t, n, s, a);
+    let own = passes_to(t, s, a);
     kept::join(passing, 0, agent, own);
     let all = kept::get(passing, 0, agent);
     let barrier = sets_of_table::rows(s, sets_of_table::BARRIER).has(a);
@@ -81,23 +81,23 @@ fn pass_row(t: &Run, n: usize, s: &[u64], a: usize, passing: &mut [u64], w: &mut
 }
 
 // Up the page: a barrier passes to what the control barriers of its agent, from it on, pass to.
-fn pass_up(t: &Run, n: usize, s: &[u64], passing: &mut [u64], w: &mut [u64])
-    requires { (64 ≤ length passing.old) × ((k : ℕ) → get_or passing.old k 0 ≡ 0) × Given (table_in t.now n) n s.now w.old }
-    ensures { MadeGrid PASSED PASSED_END PASSED n (passed_by (table_in t.now n)) w.old w.new }
+fn pass_up(t: &Run, s: &[u64], passing: &mut [u64], w: &mut [u64])
+    requires { (64 ≤ length passing.old) × ((k : ℕ) → get_or passing.old k 0 ≡ 0) × Given (table_of t.now) t.now.rows s.now w.old }
+    ensures { MadeGrid PASSED PASSED_END PASSED t.now.rows (passed_by (table_of t.now)) w.old w.new }
 {
-    for a in (0..n).rev() {
-        pass_row(t, n, s, a, passing, w);
+    for a in (0..t.rows).rev() {
+        pass_row(t, s, a, passing, w);
     }
 }
 
 // PASSED. A table without control barriers has nothing to ask.
-pub fn fill_passed(t: &Run, n: usize, s: &[u64], w: &mut [u64])
-    requires { Given (table_in t.now n) n s.now w.old }
-    ensures { MadeGrid PASSED PASSED_END PASSED n (passed_by (table_in t.now n)) w.old w.new }
+pub fn fill_passed(t: &Run, s: &[u64], w: &mut [u64])
+    requires { Given (table_of t.now) t.now.rows s.now w.old }
+    ensures { MadeGrid PASSED PASSED_END PASSED t.now.rows (passed_by (table_of t.now)) w.old w.new }
 {
     if kept::get(s, sets_of_table::BY_KIND, kinds::CONTROL as usize).has_any() {
         let mut passing = [0u64; 64];
-        pass_up(t, n, s, &mut passing, w);
+        pass_up(t, s, &mut passing, w);
         return;
     }
     bits::clear(w, sets_grids::PASSED, sets_grids::PASSED_END);

@@ -6,7 +6,7 @@ ghost use Rattle.std.specs.Prelude.{◌≡◌, ℕ, ◌≤◌, ◌<◌, length};
 ghost use Rattle.model.specs.Limits.{ROWS, WORK};
 ghost use Rattle.model.specs.Moment.{program_order};
 ghost use Rattle.model.specs.Availability.{visibility_moment};
-ghost use Rattle.run.specs.Layout.{table_in};
+ghost use Rattle.run.specs.Layout.{table_of};
 ghost use Rattle.model_closing.specs.Order.{later_row};
 ghost use Rattle.sets_of_rows.specs.declared.Set.{Set};
 ghost use Rattle.sets_of_rows.specs.Member.{in_set};
@@ -27,23 +27,23 @@ use sets_of_rows::{Set, kept};
 // ---- program order
 
 // The rows after an availability operation: that of an atomic or a barrier comes before it, and a plain row's after it.
-fn after_available(t: &Run, n: usize, s: &[u64], a: usize) -> Set
-    requires { (a < n) × Opened (table_in t.now n) n s.now }
-    ensures { Rows n (behind (table_in t.now n) a) result }
+fn after_available(t: &Run, s: &[u64], a: usize) -> Set
+    requires { (a < t.now.rows) × Opened (table_of t.now) t.now.rows s.now }
+    ensures { Rows t.now.rows (behind (table_of t.now) a) result }
 {
     if sets_of_table::rows(s, sets_of_table::PLAIN).has(a) {
-        return sets_of_table::ask::after(t, n, s, a);
+        return sets_of_table::ask::after(t, s, a);
     }
-    sets_of_table::ask::onward(t, n, s, a)
+    sets_of_table::ask::onward(t, s, a)
 }
 
 // Program order from the availability operation of row a.
-fn put_available(t: &Run, n: usize, s: &[u64], a: usize, w: &mut [u64])
-    requires { (a < n) × Given (table_in t.now n) n s.now w.old }
-    ensures { PutsAvailable (table_in t.now n) n a w.old w.new }
+fn put_available(t: &Run, s: &[u64], a: usize, w: &mut [u64])
+    requires { (a < t.now.rows) × Given (table_of t.now) t.now.rows s.now w.old }
+    ensures { PutsAvailable (table_of t.now) t.now.rows a w.old w.new }
 {
-    let after = sets_of_table::ask::after(t, n, s, a);
-    let from = after_available(t, n, s, a);
+    let after = sets_of_table::ask::after(t, s, a);
+    let from = after_available(t, s, a);
     kept::put(w, sets_grids::AVAILABLE_AT, a, from);
     let visible = from & sets_of_table::rows(s, sets_of_table::VISIBLE);
     kept::put(w, sets_grids::AVAILABLE_VISIBLE, a, visible);
@@ -52,48 +52,48 @@ fn put_available(t: &Run, n: usize, s: &[u64], a: usize, w: &mut [u64])
 }
 
 // Program order of every row.
-fn put_rows(t: &Run, n: usize, s: &[u64], w: &mut [u64])
-    requires { Given (table_in t.now n) n s.now w.old }
-    ensures { MadeGrid HAPPENS AVAILABLE_AT HAPPENS n (later_row (table_in t.now n)) w.old w.new }
+fn put_rows(t: &Run, s: &[u64], w: &mut [u64])
+    requires { Given (table_of t.now) t.now.rows s.now w.old }
+    ensures { MadeGrid HAPPENS AVAILABLE_AT HAPPENS t.now.rows (later_row (table_of t.now)) w.old w.new }
 {
-    for i in 0..n {
-        let after = sets_of_table::ask::after(t, n, s, i);
+    for i in 0..t.rows {
+        let after = sets_of_table::ask::after(t, s, i);
         kept::put(w, sets_grids::HAPPENS, i, after);
     }
 }
 
 // Program order of every availability operation.
-fn put_availables(t: &Run, n: usize, s: &[u64], w: &mut [u64])
-    requires { Given (table_in t.now n) n s.now w.old × NoneAvailable w.old }
-    ensures { MadeAvailables (table_in t.now n) n w.old w.new }
+fn put_availables(t: &Run, s: &[u64], w: &mut [u64])
+    requires { Given (table_of t.now) t.now.rows s.now w.old × NoneAvailable w.old }
+    ensures { MadeAvailables (table_of t.now) t.now.rows w.old w.new }
 {
     for a in sets_of_table::rows(s, sets_of_table::AVAILABLE) {
-        put_available(t, n, s, a, w);
+        put_available(t, s, a, w);
     }
 }
 
 // Program order of every visibility operation.
-fn put_visibles(t: &Run, n: usize, s: &[u64], w: &mut [u64])
-    requires { Given (table_in t.now n) n s.now w.old × Empty VISIBLE_VISIBLE w.old }
-    ensures { let t = table_in t.entry.now n in
-        MadeGrid VISIBLE_VISIBLE HAPPENS_END VISIBLE_VISIBLE n (λ v u. program_order t (visibility_moment t v) (visibility_moment t u)) w.old w.new }
+fn put_visibles(t: &Run, s: &[u64], w: &mut [u64])
+    requires { Given (table_of t.now) t.now.rows s.now w.old × Empty VISIBLE_VISIBLE w.old }
+    ensures { let table = table_of t.now in
+        MadeGrid VISIBLE_VISIBLE HAPPENS_END VISIBLE_VISIBLE t.now.rows (λ v u. program_order table (visibility_moment table v) (visibility_moment table u)) w.old w.new }
 {
     let visible = sets_of_table::rows(s, sets_of_table::VISIBLE);
     for v in visible {
-        let after = sets_of_table::ask::after(t, n, s, v) & visible;
+        let after = sets_of_table::ask::after(t, s, v) & visible;
         kept::put(w, sets_grids::VISIBLE_VISIBLE, v, after);
     }
 }
 
 // Program order of every row, and of every availability and visibility operation.
-pub fn put_program_order(t: &Run, n: usize, s: &[u64], w: &mut [u64])
-    requires { Given (table_in t.now n) n s.now w.old }
-    ensures { MadeProgram (table_in t.now n) n w.old w.new }
+pub fn put_program_order(t: &Run, s: &[u64], w: &mut [u64])
+    requires { Given (table_of t.now) t.now.rows s.now w.old }
+    ensures { MadeProgram (table_of t.now) t.now.rows w.old w.new }
 {
     bits::clear(w, sets_grids::HAPPENS, sets_grids::HAPPENS_END);
-    put_rows(t, n, s, w);
-    put_availables(t, n, s, w);
-    put_visibles(t, n, s, w);
+    put_rows(t, s, w);
+    put_availables(t, s, w);
+    put_visibles(t, s, w);
 }
 
 // ---- inter-thread order for one class set
@@ -110,24 +110,24 @@ fn by_release(r: Set, w: &[u64]) -> Set
 }
 
 // What row i leads to: a node's own; of any other row that is concerned, by way of the first release row after it.
-fn from_row(t: &Run, n: usize, s: &[u64], k: Concerned, i: usize, w: &[u64]) -> Set
-    requires { (i < n) × Given (table_in t.now n) n s.now w.now }
-    ensures { let t = table_in t.entry.now n in
-        ((c : ℕ) (ends : Set) → Reached t n c ends k s.now w.now → Rows n (from_at t ends c i) result) }
+fn from_row(t: &Run, s: &[u64], k: Concerned, i: usize, w: &[u64]) -> Set
+    requires { (i < t.now.rows) × Given (table_of t.now) t.now.rows s.now w.now }
+    ensures { let table = table_of t.now in
+        ((c : ℕ) (ends : Set) → Reached table t.now.rows c ends k s.now w.now → Rows t.now.rows (from_at table ends c i) result) }
 {
     if k.nodes.has(i) {
         return kept::get(w, sets_grids::REACH_AT, i);
     }
-    by_release(sets_of_table::ask::after(t, n, s, i) & k.releases, w)
+    by_release(sets_of_table::ask::after(t, s, i) & k.releases, w)
 }
 
 // From rows.
-pub fn add_at(t: &Run, n: usize, s: &[u64], c: usize, ends: Set, k: Concerned, w: &mut [u64])
-    requires { Reached (table_in t.now n) n c ends k s.now w.old }
-    ensures { AddsAt (table_in t.now n) n c w.old w.new }
+pub fn add_at(t: &Run, s: &[u64], c: usize, ends: Set, k: Concerned, w: &mut [u64])
+    requires { Reached (table_of t.now) t.now.rows c ends k s.now w.old }
+    ensures { AddsAt (table_of t.now) t.now.rows c w.old w.new }
 {
     for i in k.at | k.nodes {
-        let to = from_row(t, n, s, k, i, w);
+        let to = from_row(t, s, k, i, w);
         kept::join(w, sets_grids::HAPPENS, i, to);
     }
 }
@@ -149,12 +149,12 @@ fn join_available(a: usize, r: Set, w: &mut [u64])
 }
 
 // From availability operations, by way of the first release row behind them, which may be their own.
-pub fn add_available(t: &Run, n: usize, s: &[u64], c: usize, ends: Set, k: Concerned, w: &mut [u64])
-    requires { Reached (table_in t.now n) n c ends k s.now w.old }
-    ensures { AddsAvailable (table_in t.now n) n c w.old w.new }
+pub fn add_available(t: &Run, s: &[u64], c: usize, ends: Set, k: Concerned, w: &mut [u64])
+    requires { Reached (table_of t.now) t.now.rows c ends k s.now w.old }
+    ensures { AddsAvailable (table_of t.now) t.now.rows c w.old w.new }
 {
     for a in k.available {
-        let r = after_available(t, n, s, a) & k.releases;
+        let r = after_available(t, s, a) & k.releases;
         join_available(a, r, w);
     }
 }
@@ -172,12 +172,12 @@ fn join_visible(v: usize, r: Set, w: &mut [u64])
 }
 
 // From visibility operations, by way of the first release row after them.
-pub fn add_visible(t: &Run, n: usize, s: &[u64], c: usize, ends: Set, k: Concerned, w: &mut [u64])
-    requires { Reached (table_in t.now n) n c ends k s.now w.old }
-    ensures { AddsVisible (table_in t.now n) n c w.old w.new }
+pub fn add_visible(t: &Run, s: &[u64], c: usize, ends: Set, k: Concerned, w: &mut [u64])
+    requires { Reached (table_of t.now) t.now.rows c ends k s.now w.old }
+    ensures { AddsVisible (table_of t.now) t.now.rows c w.old w.new }
 {
     for v in k.visible {
-        let r = sets_of_table::ask::after(t, n, s, v) & k.releases;
+        let r = sets_of_table::ask::after(t, s, v) & k.releases;
         join_visible(v, r, w);
     }
 }

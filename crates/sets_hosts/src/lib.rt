@@ -9,7 +9,7 @@ ghost use Rattle.model.specs.Limits.{ROWS, WORK};
 ghost use Rattle.model.specs.Row.{access};
 ghost use Rattle.model.specs.Location.{system_before};
 ghost use Rattle.model.specs.Table.{Table};
-ghost use Rattle.run.specs.Layout.{table_in};
+ghost use Rattle.run.specs.Layout.{table_of};
 ghost use Rattle.sets_of_rows.specs.Member.{in_set};
 ghost use Rattle.sets_of_rows.specs.Kept.{set_at};
 ghost use Rattle.sets_of_rows.specs.Rows.{Rows};
@@ -127,10 +127,10 @@ fn hosted_row(s: &[u64], x: usize, w: &[u64]) -> Set
 }
 
 // HOSTED: L4 of accesses that don't write, L5 of those that write.
-pub fn fill_hosted(t: &Run, n: usize, s: &[u64], w: &mut [u64])
-    requires { Given (table_in t.now n) n s.now w.old × Grid HAPPENS n (happens_rows (table_in t.now n)) w.old
-        × Grid SYSTEM n (system_before (table_in t.now n)) w.old }
-    ensures { MadeGrid HOSTED MET_END HOSTED n (hosted_by (table_in t.now n)) w.old w.new }
+pub fn fill_hosted(t: &Run, s: &[u64], w: &mut [u64])
+    requires { Given (table_of t.now) t.now.rows s.now w.old × Grid HAPPENS t.now.rows (happens_rows (table_of t.now)) w.old
+        × Grid SYSTEM t.now.rows (system_before (table_of t.now)) w.old }
+    ensures { MadeGrid HOSTED MET_END HOSTED t.now.rows (hosted_by (table_of t.now)) w.old w.new }
 {
     fill_met(s, w);
     bits::clear(w, sets_grids::HOSTED, sets_grids::HOSTED_END);

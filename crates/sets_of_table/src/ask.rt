@@ -2,7 +2,7 @@
 ghost use Rattle.std.specs.Prelude.{◌≡◌, ◌<◌};
 ghost use Rattle.model.specs.Row.{meets, single};
 ghost use Rattle.model.specs.Moment.{same_agent};
-ghost use Rattle.run.specs.Layout.{table_in};
+ghost use Rattle.run.specs.Layout.{table_of};
 ghost use Rattle.model_closing.specs.Order.{later_row, from_row};
 ghost use Rattle.sets_of_rows.specs.Rows.{Rows};
 ghost use Rattle.model_placing.specs.Shares.{share, hears};
@@ -13,65 +13,65 @@ use run::Run;
 use sets_of_rows::{Set, kept};
 
 // The rows of row i's agent.
-pub fn of_agent(t: &Run, n: usize, s: &[u64], i: usize) -> Set
-    requires { (i < n) × Opened (table_in t.now n) n s.now }
-    ensures { Rows n (same_agent (table_in t.now n) i) result }
+pub fn of_agent(t: &Run, s: &[u64], i: usize) -> Set
+    requires { (i < t.now.rows) × Opened (table_of t.now) t.now.rows s.now }
+    ensures { Rows t.now.rows (same_agent (table_of t.now) i) result }
 {
     kept::get(s, crate::BY_AGENT, fields::agent(t, i))
 }
 
 // The rows that row i is program-ordered before.
-pub fn after(t: &Run, n: usize, s: &[u64], i: usize) -> Set
-    requires { (i < n) × Opened (table_in t.now n) n s.now }
-    ensures { Rows n (later_row (table_in t.now n) i) result }
+pub fn after(t: &Run, s: &[u64], i: usize) -> Set
+    requires { (i < t.now.rows) × Opened (table_of t.now) t.now.rows s.now }
+    ensures { Rows t.now.rows (later_row (table_of t.now) i) result }
 {
-    of_agent(t, n, s, i) & Set::above(i)
+    of_agent(t, s, i) & Set::above(i)
 }
 
 // The same and row i.
-pub fn onward(t: &Run, n: usize, s: &[u64], i: usize) -> Set
-    requires { (i < n) × Opened (table_in t.now n) n s.now }
-    ensures { Rows n (from_row (table_in t.now n) i) result }
+pub fn onward(t: &Run, s: &[u64], i: usize) -> Set
+    requires { (i < t.now.rows) × Opened (table_of t.now) t.now.rows s.now }
+    ensures { Rows t.now.rows (from_row (table_of t.now) i) result }
 {
-    of_agent(t, n, s, i) - Set::below(i)
+    of_agent(t, s, i) - Set::below(i)
 }
 
 // The rows of agents that share scope q with row i's agent.
-pub fn sharing(t: &Run, n: usize, s: &[u64], i: usize, q: usize) -> Set
-    requires { (i < n) × (q < 5) × Opened (table_in t.now n) n s.now }
-    ensures { let t = table_in t.entry.now n in Rows n (share t (t.row i).agent q) result }
+pub fn sharing(t: &Run, s: &[u64], i: usize, q: usize) -> Set
+    requires { (i < t.now.rows) × (q < 5) × Opened (table_of t.now) t.now.rows s.now }
+    ensures { let table = table_of t.now in Rows t.now.rows (share table (table.row i).agent q) result }
 {
     kept::get(s, crate::SHARE + 10 * fields::agent(t, i), q)
 }
 
 // The rows of agents that share row i's scope.
-pub fn reach(t: &Run, n: usize, s: &[u64], i: usize) -> Set
-    requires { (i < n) × Opened (table_in t.now n) n s.now }
-    ensures { let t = table_in t.entry.now n in Rows n (share t (t.row i).agent (t.row i).scope) result }
+pub fn reach(t: &Run, s: &[u64], i: usize) -> Set
+    requires { (i < t.now.rows) × Opened (table_of t.now) t.now.rows s.now }
+    ensures { let table = table_of t.now in Rows t.now.rows (share table (table.row i).agent (table.row i).scope) result }
 {
-    sharing(t, n, s, i, fields::scope(t, i))
+    sharing(t, s, i, fields::scope(t, i))
 }
 
 // The rows whose own scope row i's agent shares.
-pub fn hears(t: &Run, n: usize, s: &[u64], i: usize) -> Set
-    requires { (i < n) × Opened (table_in t.now n) n s.now }
-    ensures { let t = table_in t.entry.now n in Rows n (hears t (t.row i).agent) result }
+pub fn hears(t: &Run, s: &[u64], i: usize) -> Set
+    requires { (i < t.now.rows) × Opened (table_of t.now) t.now.rows s.now }
+    ensures { let table = table_of t.now in Rows t.now.rows (hears table (table.row i).agent) result }
 {
     kept::get(s, crate::HEARS, fields::agent(t, i))
 }
 
 // M2: the rows for which row i and they share both scopes.
-pub fn together(t: &Run, n: usize, s: &[u64], i: usize) -> Set
-    requires { (i < n) × Opened (table_in t.now n) n s.now }
-    ensures { Rows n (at_together (table_in t.now n) i) result }
+pub fn together(t: &Run, s: &[u64], i: usize) -> Set
+    requires { (i < t.now.rows) × Opened (table_of t.now) t.now.rows s.now }
+    ensures { Rows t.now.rows (at_together (table_of t.now) i) result }
 {
-    reach(t, n, s, i) & hears(t, n, s, i)
+    reach(t, s, i) & hears(t, s, i)
 }
 
 // The accesses of a class in the set m.
-pub fn of_classes(t: &Run, n: usize, s: &[u64], m: usize) -> Set
-    requires { (m < 16) × Opened (table_in t.now n) n s.now }
-    ensures { Rows n (classed_in (table_in t.now n) m) result }
+pub fn of_classes(t: &Run, s: &[u64], m: usize) -> Set
+    requires { (m < 16) × Opened (table_of t.now) t.now.rows s.now }
+    ensures { Rows t.now.rows (classed_in (table_of t.now) m) result }
 {
     let mut a = Set::none();
     for q in 0..4 {

@@ -4,7 +4,7 @@
 
 ghost use Rattle.std.specs.Prelude.{◌+◌, ◌*◌, ◌≤◌, ◌<◌, length, ◌≡◌};
 ghost use Rattle.model.specs.Limits.{ROWS};
-ghost use Rattle.run.specs.Layout.{rows_in, table_in};
+ghost use Rattle.run.specs.Layout.{rows_in, table_of};
 ghost use Rattle.sets_of_rows.specs.Family.{Marks};
 ghost use Rattle.sets_of_rows.specs.Kept.{set_at};
 ghost use Rattle.sets_of_table.specs.Filed.{Coded, CodedRows, Files, FILED, marks, marks_who, marks_how, marks_what};
@@ -144,13 +144,13 @@ fn file_row(s: &mut [u64], i: usize, r: Row)
 }
 
 // The n rows of a run filed by their codes, in sets that were cleared.
-fn file(t: &Run, n: usize, s: &mut [u64])
-    requires { (2 * FILED ≤ length s.old) × (n ≤ ROWS) × CodedRows (rows_in t.now) n }
-    ensures { Files (rows_in t.now) n s.old s.new }
+fn file(t: &Run, s: &mut [u64])
+    requires { (2 * FILED ≤ length s.old) × (t.now.rows ≤ ROWS) × CodedRows (rows_in t.now.bytes) t.now.rows }
+    ensures { Files (rows_in t.now.bytes) t.now.rows s.old s.new }
 {
     bits::clear(s, 0, FILED_END);
-    for i in 0..n {
-        let r = run::row(t, i as u16);
+    for i in 0..t.rows {
+        let r = t.row(i as u16);
         file_row(s, i, r);
     }
 }
@@ -158,14 +158,14 @@ fn file(t: &Run, n: usize, s: &mut [u64])
 // ---- all sets
 
 // All sets of a run of n rows.
-pub fn prepare(t: &Run, n: usize, s: &mut [u64])
-    requires { (WORDS ≤ length s.old) × Fit (table_in t.now n) }
-    ensures { MadeKnown (table_in t.now n) n s.old s.new }
+pub fn prepare(t: &Run, s: &mut [u64])
+    requires { (WORDS ≤ length s.old) × Fit (table_of t.now) }
+    ensures { MadeKnown (table_of t.now) t.now.rows s.old s.new }
 {
-    file(t, n, s);
+    file(t, s);
     tests::make(s);
     tests::sort(s);
-    share::fill(s, run::places(t));
+    share::fill(s, t.places());
     number::group(t, s, PLACE, true);
     number::group(t, s, REFERENCE, false);
 }

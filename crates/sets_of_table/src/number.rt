@@ -16,9 +16,9 @@ use sets_of_rows::{Set, kept};
 // Start, size and reference of row i as one number, if `whole`; else its reference alone.
 fn key(t: &Run, i: usize, whole: bool) -> u64
     requires { i < ROWS }
-    ensures { result ≡ key_in whole (rows_in t.now) i }
+    ensures { result ≡ key_in whole (rows_in t.now.bytes) i }
 {
-    let rows = run::rows_of(t);
+    let rows = t.row_bytes();
     let name = bytes::read_reference(rows, i as u16) as u64;
     if whole {
         let start = bytes::read_start(rows, i as u16) as u64;
@@ -58,7 +58,7 @@ fn number_row(keys: &mut [u64], loc: &mut [u64], i: usize, l: usize, k: u64) -> 
 // Numbers the members of x. Gives how many numbers there are.
 fn number(keys: &mut [u64], loc: &mut [u64], t: &Run, x: Set, whole: bool) -> usize
     requires { (ROWS ≤ length keys.old) × (ROWS ≤ length loc.old) }
-    ensures { Numbered (key_in whole (rows_in t.now)) x ROWS keys.new loc.new result }
+    ensures { Numbered (key_in whole (rows_in t.now.bytes)) x ROWS keys.new loc.new result }
 {
     let mut l = 0;
     for i in x {
@@ -95,7 +95,7 @@ fn spread(s: &mut [u64], by: &[u64], loc: &[u64], base: usize, x: Set)
 // Each access of a run gets the set of the accesses that have its location, if `whole`, or its reference.
 pub fn group(t: &Run, s: &mut [u64], base: usize, whole: bool)
     requires { (ACCESS + 2 ≤ base) × (base + 2 * ROWS ≤ length s.old) }
-    ensures { Grouped base (key_in whole (rows_in t.now)) (set_at s.old ACCESS) s.old s.new }
+    ensures { Grouped base (key_in whole (rows_in t.now.bytes)) (set_at s.old ACCESS) s.old s.new }
 {
     let x = kept::get(s, crate::ACCESS, 0);
     let mut keys = [0u64; 128];

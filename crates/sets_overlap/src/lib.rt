@@ -5,7 +5,7 @@ ghost use Rattle.std.specs.Prelude.{◌≡◌, true, ◌*◌, ◌<◌, replicate
 ghost use Rattle.model.specs.Limits.{ROWS};
 ghost use Rattle.model.specs.Row.{access};
 ghost use Rattle.model.specs.Table.{row_of};
-ghost use Rattle.run.specs.Layout.{rows_in, table_in};
+ghost use Rattle.run.specs.Layout.{rows_in, table_of};
 ghost use Rattle.sets_of_rows.specs.First.{First};
 ghost use Rattle.sets_of_rows.specs.Rows.{Rows};
 ghost use Rattle.work_area.specs.Regions.{OVERLAP, OVERLAP_END};
@@ -21,9 +21,9 @@ use sets_of_table::fields;
 
 // The location of row i, the first of those that have not met, and each other one take in one another's rows if they share bytes. Gives
 // the others.
-fn take_in(t: &Run, n: usize, s: &[u64], unmet: Set, i: usize, near: &mut [u64]) -> Set
-    requires { First unmet i × Opened (table_in t.now n) n s.now × Meeting (table_in t.now n) n unmet near.old }
-    ensures { Met (table_in t.now n) n unmet result near.new }
+fn take_in(t: &Run, s: &[u64], unmet: Set, i: usize, near: &mut [u64]) -> Set
+    requires { First unmet i × Opened (table_of t.now) t.now.rows s.now × Meeting (table_of t.now) t.now.rows unmet near.old }
+    ensures { Met (table_of t.now) t.now.rows unmet result near.new }
 {
     let start = fields::start(t, i);
     let end = fields::end(t, i);
@@ -44,21 +44,21 @@ fn take_in(t: &Run, n: usize, s: &[u64], unmet: Set, i: usize, near: &mut [u64])
 }
 
 // The rows that share bytes with each location, at its first row.
-fn meet(t: &Run, n: usize, s: &[u64], near: &mut [u64])
-    requires { Opened (table_in t.now n) n s.now × (near.old ≡ replicate (2 * ROWS) 0) }
-    ensures { Near (table_in t.now n) n near.new }
+fn meet(t: &Run, s: &[u64], near: &mut [u64])
+    requires { Opened (table_of t.now) t.now.rows s.now × (near.old ≡ replicate (2 * ROWS) 0) }
+    ensures { Near (table_of t.now) t.now.rows near.new }
 {
     let mut unmet = sets_of_table::rows(s, sets_of_table::ACCESS);
     while let Some(i) = unmet.first() {
-        unmet = take_in(t, n, s, unmet, i, near);
+        unmet = take_in(t, s, unmet, i, near);
     }
 }
 
 // The accesses that share bytes with access i: it hangs on the location alone.
 // Ruled out: one that has what the row before shares bytes with.
-fn overlap_row(t: &Run, n: usize, s: &[u64], near: &[u64], i: usize) -> Set
-    requires { (i < n) × (access (row_of (rows_in t.now) i) ≡ true) × Told (table_in t.now n) n s.now near.now }
-    ensures { Rows n (overlaps (table_in t.now n) i) result }
+fn overlap_row(t: &Run, s: &[u64], near: &[u64], i: usize) -> Set
+    requires { (i < t.now.rows) × (access (row_of (rows_in t.now.bytes) i) ≡ true) × Told (table_of t.now) t.now.rows s.now near.now }
+    ensures { Rows t.now.rows (overlaps (table_of t.now) i) result }
 {
     let j = kept::get(s, sets_of_table::PLACE, i).first().unwrap();
     kept::get(near, 0, j)
@@ -66,15 +66,15 @@ fn overlap_row(t: &Run, n: usize, s: &[u64], near: &[u64], i: usize) -> Set
 
 // OVERLAP.
 // Ruled out: one in which the later of two locations alone has the other's rows; one in which a location has only its first row's.
-pub fn fill_overlaps(t: &Run, n: usize, s: &[u64], w: &mut [u64])
-    requires { Given (table_in t.now n) n s.now w.old }
-    ensures { MadeGrid OVERLAP OVERLAP_END OVERLAP n (overlaps (table_in t.now n)) w.old w.new }
+pub fn fill_overlaps(t: &Run, s: &[u64], w: &mut [u64])
+    requires { Given (table_of t.now) t.now.rows s.now w.old }
+    ensures { MadeGrid OVERLAP OVERLAP_END OVERLAP t.now.rows (overlaps (table_of t.now)) w.old w.new }
 {
     let mut near = [0u64; 256];
-    meet(t, n, s, &mut near);
+    meet(t, s, &mut near);
     bits::clear(w, work_area::OVERLAP, work_area::OVERLAP_END);
     for i in sets_of_table::rows(s, sets_of_table::ACCESS) {
-        let x = overlap_row(t, n, s, &near, i);
+        let x = overlap_row(t, s, &near, i);
         kept::put(w, work_area::OVERLAP, i, x);
     }
 }

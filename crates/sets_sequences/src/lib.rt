@@ -5,7 +5,7 @@ ghost use Rattle.std.specs.Prelude.{◌≡◌, ◌≤◌, ◌<◌, length};
 ghost use Rattle.model.specs.Limits.{ROWS, WORK};
 ghost use Rattle.model.specs.Scope.{follows};
 ghost use Rattle.model_laws.specs.FilledLaws.{Bytes};
-ghost use Rattle.run.specs.Layout.{table_in};
+ghost use Rattle.run.specs.Layout.{table_of};
 ghost use Rattle.sets_grids.specs.Regions.{LATER, HEADS, HEADS_END};
 ghost use Rattle.sets_grids.specs.Grid.{Grid, MadeGrid};
 ghost use Rattle.sets_grids.specs.Given.{Given};
@@ -58,11 +58,11 @@ fn join_if(b: bool, k: usize, h: usize, w: &mut [u64])
 }
 
 // Where the sequence that the writer h heads ends: at the first atomic write that follows h and is no RMW.
-fn end_of(t: &Run, n: usize, s: &[u64], h: usize, w: &[u64]) -> u32
-    requires { (h < n) × Given (table_in t.now n) n s.now w.now × Grid LATER n (follows (table_in t.now n)) w.now }
-    ensures { Ends (table_in t.now n) h result }
+fn end_of(t: &Run, s: &[u64], h: usize, w: &[u64]) -> u32
+    requires { (h < t.now.rows) × Given (table_of t.now) t.now.rows s.now w.now × Grid LATER t.now.rows (follows (table_of t.now)) w.now }
+    ensures { Ends (table_of t.now) h result }
 {
-    let counted = run::counted(t);
+    let counted = t.counted();
     let rank = fields::rank(t, h);
     let mut end = NEVER;
     for z in kept::get(w, sets_grids::LATER, h)
@@ -75,11 +75,11 @@ fn end_of(t: &Run, n: usize, s: &[u64], h: usize, w: &[u64]) -> u32
 }
 
 // Row h joins the heads of each RMW that is in its sequence, which ends at `end`.
-fn add_head(t: &Run, n: usize, s: &[u64], h: usize, end: u32, w: &mut [u64])
-    requires { Head (table_in t.now n) n h end × Given (table_in t.now n) n s.now w.old × Grid LATER n (follows (table_in t.now n)) w.old }
-    ensures { Headed (table_in t.now n) n h w.old w.new }
+fn add_head(t: &Run, s: &[u64], h: usize, end: u32, w: &mut [u64])
+    requires { Head (table_of t.now) t.now.rows h end × Given (table_of t.now) t.now.rows s.now w.old × Grid LATER t.now.rows (follows (table_of t.now)) w.old }
+    ensures { Headed (table_of t.now) t.now.rows h w.old w.new }
 {
-    let counted = run::counted(t);
+    let counted = t.counted();
     let rank = fields::rank(t, h);
     for k in kept::get(w, sets_grids::LATER, h)
         & kept::get(s, sets_of_table::BY_KIND, kinds::RMW as usize)
@@ -90,15 +90,15 @@ fn add_head(t: &Run, n: usize, s: &[u64], h: usize, end: u32, w: &mut [u64])
 }
 
 // HEADS: each atomic writer is in its own sequence, and an RMW in those of earlier ones that have not ended.
-pub fn fill_heads(t: &Run, n: usize, s: &[u64], w: &mut [u64])
-    requires { Given (table_in t.now n) n s.now w.old × Grid LATER n (follows (table_in t.now n)) w.old }
-    ensures { MadeGrid HEADS HEADS_END HEADS n (headed_by (table_in t.now n)) w.old w.new }
+pub fn fill_heads(t: &Run, s: &[u64], w: &mut [u64])
+    requires { Given (table_of t.now) t.now.rows s.now w.old × Grid LATER t.now.rows (follows (table_of t.now)) w.old }
+    ensures { MadeGrid HEADS HEADS_END HEADS t.now.rows (headed_by (table_of t.now)) w.old w.new }
 {
-    first_byte(run::rows_of(t));
+    first_byte(t.row_bytes());
     bits::clear(w, sets_grids::HEADS, sets_grids::HEADS_END);
     for h in sets_of_table::rows(s, sets_of_table::RANKED) {
         kept::put_bit(w, sets_grids::HEADS, h, h);
-        let end = end_of(t, n, s, h, w);
-        add_head(t, n, s, h, end, w);
+        let end = end_of(t, s, h, w);
+        add_head(t, s, h, end, w);
     }
 }

@@ -3,7 +3,7 @@ ghost use Rattle.std.specs.Prelude.{◌≡◌, true, ◌<◌};
 ghost use Rattle.model.specs.Row.{atomic};
 ghost use Rattle.model.specs.Table.{row_of};
 ghost use Rattle.model.specs.Scope.{mutually};
-ghost use Rattle.run.specs.Layout.{rows_in, table_in};
+ghost use Rattle.run.specs.Layout.{rows_in, table_of};
 ghost use Rattle.sets_of_rows.specs.Rows.{Rows};
 ghost use Rattle.work_area.specs.Regions.{MUTUAL};
 ghost use Rattle.sets_of_table.specs.Known.{Opened};
@@ -18,21 +18,20 @@ use sets_of_rows::{Set, kept};
 use sets_of_table::fields;
 
 // The acquire rows that get what the atomic y reads: itself, and the acquire barriers after it whose semantics have its class.
-fn getters(t: &Run, n: usize, s: &[u64], y: usize) -> Set
-    requires { (y < n) × (atomic (row_of (rows_in t.now) y) ≡ true) × Opened (table_in t.now n) n s.now }
-    ensures { Rows n (gets (table_in t.now n) y) result }
+fn getters(t: &Run, s: &[u64], y: usize) -> Set
+    requires { (y < t.now.rows) × (atomic (row_of (rows_in t.now.bytes) y) ≡ true) × Opened (table_of t.now) t.now.rows s.now }
+    ensures { Rows t.now.rows (gets (table_of t.now) y) result }
 {
     let class = kept::get(s, sets_of_table::HOLDING, fields::class(t, y));
-    let after = sets_of_table::ask::after(t, n, s, y)
-        & sets_of_table::rows(s, sets_of_table::BARRIER);
+    let after = sets_of_table::ask::after(t, s, y) & sets_of_table::rows(s, sets_of_table::BARRIER);
     let all = (after & class) | Set::bit(y);
     all & sets_of_table::rows(s, sets_of_table::ACQUIRES)
 }
 
 // The rows x join the getters of each head of `source` that is mutually-ordered with y.
-fn join_heads(t: &Run, n: usize, y: usize, source: usize, x: Set, w: &mut [u64])
-    requires { Joining (table_in t.now n) n y source x w.old }
-    ensures { Takes (table_in t.now n) n y source w.old w.new }
+fn join_heads(t: &Run, y: usize, source: usize, x: Set, w: &mut [u64])
+    requires { Joining (table_of t.now) t.now.rows y source x w.old }
+    ensures { Takes (table_of t.now) t.now.rows y source w.old w.new }
 {
     for h in kept::get(w, sets_grids::HEADS, source) & kept::get(w, work_area::MUTUAL, y) {
         kept::join(w, sets_grids::TAKEN, h, x);
@@ -40,37 +39,37 @@ fn join_heads(t: &Run, n: usize, y: usize, source: usize, x: Set, w: &mut [u64])
 }
 
 // The getters of y, if there are any, join those of each head whose sequence y reads from and that is mutually-ordered with y.
-fn take(t: &Run, n: usize, s: &[u64], y: usize, source: usize, w: &mut [u64])
-    requires { (source < n) × Reading (table_in t.now n) n y s.now w.old }
-    ensures { Takes (table_in t.now n) n y source w.old w.new }
+fn take(t: &Run, s: &[u64], y: usize, source: usize, w: &mut [u64])
+    requires { (source < t.now.rows) × Reading (table_of t.now) t.now.rows y s.now w.old }
+    ensures { Takes (table_of t.now) t.now.rows y source w.old w.new }
 {
-    let gets = getters(t, n, s, y);
+    let gets = getters(t, s, y);
     if gets.has_any() {
-        join_heads(t, n, y, source, gets, w);
+        join_heads(t, y, source, gets, w);
     }
 }
 
 // The same of y's own source, if it is a row.
-fn take_from(t: &Run, n: usize, s: &[u64], y: usize, w: &mut [u64])
-    requires { Reading (table_in t.now n) n y s.now w.old }
-    ensures { TakesFrom (table_in t.now n) n y w.old w.new }
+fn take_from(t: &Run, s: &[u64], y: usize, w: &mut [u64])
+    requires { Reading (table_of t.now) t.now.rows y s.now w.old }
+    ensures { TakesFrom (table_of t.now) t.now.rows y w.old w.new }
 {
     let source = fields::source(t, y);
-    if source < n {
-        take(t, n, s, y, source, w);
+    if source < t.rows {
+        take(t, s, y, source, w);
     }
 }
 
 // TAKEN: of every atomic read from a row.
-pub fn fill_taken(t: &Run, n: usize, s: &[u64], w: &mut [u64])
-    requires { Given (table_in t.now n) n s.now w.old × Grid MUTUAL n (mutually (table_in t.now n)) w.old
-        × Grid HEADS n (headed_by (table_in t.now n)) w.old }
-    ensures { MadeGrid TAKEN TAKEN_END TAKEN n (taken_by (table_in t.now n)) w.old w.new }
+pub fn fill_taken(t: &Run, s: &[u64], w: &mut [u64])
+    requires { Given (table_of t.now) t.now.rows s.now w.old × Grid MUTUAL t.now.rows (mutually (table_of t.now)) w.old
+        × Grid HEADS t.now.rows (headed_by (table_of t.now)) w.old }
+    ensures { MadeGrid TAKEN TAKEN_END TAKEN t.now.rows (taken_by (table_of t.now)) w.old w.new }
 {
     bits::clear(w, sets_grids::TAKEN, sets_grids::TAKEN_END);
     for y in sets_of_table::rows(s, sets_of_table::ATOMIC)
         & sets_of_table::rows(s, sets_of_table::READS)
     {
-        take_from(t, n, s, y, w);
+        take_from(t, s, y, w);
     }
 }

@@ -38,7 +38,7 @@ pub returns : goal.returns
 returns c =
     let h = c.make_hosted.ensures in
     let r = c.make_reach.ensures in
-    let e : c.loop-x.x ≡ c.args.n = omega arith in
+    let e : c.loop-x.x ≡ c.args.t.now.rows = omega arith in
     made_placed h r
     (made_cube LOCATION LOCATION_END PAIRS PAIR _ _ _ _ _ (omega arith) (omega arith) (omega arith)
     (omega (arith, h.frame.len, r.frame.len, c.requires.room)) c.clear.ensures

@@ -1,4 +1,4 @@
-use Rattle.run.specs.Layout.{table_in}
+use Rattle.run.specs.Layout.{table_of}
 use mathlib.Core.Path.{◌≡◌}
 use Prim.Native.Nat.{◌+◌, ◌*◌, ◌≤◌}
 use lib.ListN.{length}
@@ -9,5 +9,5 @@ use Rattle.flags_location.specs.Order.{Prepared}
 use Rattle.flags_location.proofs.fill_pair.Given as goal
 
 abbrev pub invariant-loop-k : goal.invariant-loop-k
-invariant-loop-k l = (l.k ≤ PAIR) × (length l.w ≡ length l.initial.w) × Prepared (table_in l.t l.n) l.n l.w
-    × (l.w ≡ row_fill (before_nth (table_in l.t l.n) l.x l.y) l.initial.w (LOCATION * 64 + l.x * PAIRS + l.y * PAIR) l.k)
+invariant-loop-k l = (l.k ≤ PAIR) × (length l.w ≡ length l.initial.w) × Prepared (table_of l.t) l.t.rows l.w
+    × (l.w ≡ row_fill (before_nth (table_of l.t) l.x l.y) l.initial.w (LOCATION * 64 + l.x * PAIRS + l.y * PAIR) l.k)

@@ -1,4 +1,4 @@
-use Rattle.run.specs.Layout.{table_in}
+use Rattle.run.specs.Layout.{table_of}
 use mathlib.Core.Path.{◌≡◌}
 use Prim.Native.Nat.{◌+◌, ◌*◌, ◌≤◌}
 use lib.ListN.{length}
@@ -9,5 +9,5 @@ use Rattle.flags_location.specs.Order.{Prepared}
 use Rattle.flags_location.proofs.fill_row.Given as goal
 
 abbrev pub invariant-loop-y : goal.invariant-loop-y
-invariant-loop-y l = (l.y ≤ l.n) × (length l.w ≡ length l.initial.w) × Prepared (table_in l.t l.n) l.n l.w
-    × (l.w ≡ grid_fill (before_nth (table_in l.t l.n) l.x) l.initial.w (LOCATION * 64 + l.x * PAIRS) PAIR PAIR l.y)
+invariant-loop-y l = (l.y ≤ l.t.rows) × (length l.w ≡ length l.initial.w) × Prepared (table_of l.t) l.t.rows l.w
+    × (l.w ≡ grid_fill (before_nth (table_of l.t) l.x) l.initial.w (LOCATION * 64 + l.x * PAIRS) PAIR PAIR l.y)

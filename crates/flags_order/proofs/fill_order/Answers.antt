@@ -25,11 +25,11 @@ pub loop-m-preserved : goal.loop-m-preserved
 loop-m-preserved c =
     let inv = c.loop-k.invariant in
     let out = c.loop-m.invariant in
-    let e : c.loop-k.k ≡ 3 * c.args.n = omega arith in
+    let e : c.loop-k.k ≡ 3 * c.args.t.now.rows = omega arith in
     (search rules, inv.1 ∙ out.1, grid_fill_more _ _ _ _ _ _ _ _ out.2 (rw e at inv.2))
 
 pub returns : goal.returns
 returns c =
-    let e : c.loop-m.m ≡ 3 * c.args.n = omega arith in
+    let e : c.loop-m.m ≡ 3 * c.args.t.now.rows = omega arith in
     made_filled HAPPENS HAPPENS_END MOMENTS _ _ _ _ _ (omega arith) (omega arith) (omega arith)
     c.clear.ensures (rw e at c.loop-m.invariant.2)

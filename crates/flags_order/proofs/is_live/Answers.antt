@@ -23,6 +23,6 @@ loop-i-preserved c =
 
 pub returns : goal.returns
 returns c =
-    let e : c.loop-i.i ≡ c.args.n = omega arith in
+    let e : c.loop-i.i ≡ c.args.t.now.rows = omega arith in
     let inv = c.loop-i.invariant in
     sym (live_other _ _ _ _ _ inv.2 ∙ rw e at inv.1)

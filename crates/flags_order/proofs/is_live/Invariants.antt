@@ -7,4 +7,4 @@ use Rattle.run_rows.specs.Cases.{holds_at}
 use Rattle.flags_order.proofs.is_live.Given as goal
 
 abbrev pub invariant-loop-i : goal.invariant-loop-i
-invariant-loop-i l = (l.i ≤ l.n) × (any_below l.i (holds_at (rows_in l.t) l.s) ≡ false) × (l.s ≡ 1 → ⊥)
+invariant-loop-i l = (l.i ≤ l.t.rows) × (any_below l.i (holds_at (rows_in l.t.bytes) l.s) ≡ false) × (l.s ≡ 1 → ⊥)

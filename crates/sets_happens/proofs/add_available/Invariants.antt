@@ -1,4 +1,4 @@
-use Rattle.run.specs.Layout.{table_in}
+use Rattle.run.specs.Layout.{table_of}
 use Rattle.bits.specs.Within.{Within}
 use Rattle.sets_grids.specs.Regions.{AVAILABLE_AT, AVAILABLE_VISIBLE, AVAILABLE_AVAILABLE, VISIBLE_VISIBLE}
 use Rattle.sets_happens.specs.Adding.{Adding}
@@ -11,4 +11,4 @@ use Rattle.sets_happens.specs.Behind.{available_to, available_visible, available
 use Rattle.sets_happens.proofs.add_available.Given as goal
 
 abbrev pub invariant-loop-a : goal.invariant-loop-a
-invariant-loop-a l = Adding AVAILABLE_AT l.fn.k.available (λ a j. ltb j l.n and available_to (table_in l.t l.n) l.c a j) l.initial.w l.a-iterator.left l.w × Adding AVAILABLE_VISIBLE l.fn.k.available (λ a j. ltb j l.n and available_visible (table_in l.t l.n) l.c a j) l.initial.w l.a-iterator.left l.w × Adding AVAILABLE_AVAILABLE l.fn.k.available (λ a j. ltb j l.n and available_available (table_in l.t l.n) l.c a j) l.initial.w l.a-iterator.left l.w × Within AVAILABLE_AT VISIBLE_VISIBLE l.initial.w l.w
+invariant-loop-a l = Adding AVAILABLE_AT l.fn.k.available (λ a j. ltb j l.t.rows and available_to (table_of l.t) l.c a j) l.initial.w l.a-iterator.left l.w × Adding AVAILABLE_VISIBLE l.fn.k.available (λ a j. ltb j l.t.rows and available_visible (table_of l.t) l.c a j) l.initial.w l.a-iterator.left l.w × Adding AVAILABLE_AVAILABLE l.fn.k.available (λ a j. ltb j l.t.rows and available_available (table_of l.t) l.c a j) l.initial.w l.a-iterator.left l.w × Within AVAILABLE_AT VISIBLE_VISIBLE l.initial.w l.w

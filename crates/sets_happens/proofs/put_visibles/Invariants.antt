@@ -1,4 +1,4 @@
-use Rattle.run.specs.Layout.{table_in}
+use Rattle.run.specs.Layout.{table_of}
 use Rattle.bits.specs.Within.{Within}
 use Rattle.sets_grids.specs.Regions.{HAPPENS_END, VISIBLE_VISIBLE}
 use Rattle.sets_happens.specs.Adding.{Adding}
@@ -11,4 +11,4 @@ use Rattle.sets_happens.specs.Program.{visible_to}
 use Rattle.sets_happens.proofs.put_visibles.Given as goal
 
 abbrev pub invariant-loop-v : goal.invariant-loop-v
-invariant-loop-v l = Adding VISIBLE_VISIBLE l.initial.v-iterator.left (λ v j. ltb j l.n and visible_to (table_in l.t l.n) v j) l.initial.w l.v-iterator.left l.w × Within VISIBLE_VISIBLE HAPPENS_END l.initial.w l.w
+invariant-loop-v l = Adding VISIBLE_VISIBLE l.initial.v-iterator.left (λ v j. ltb j l.t.rows and visible_to (table_of l.t) v j) l.initial.w l.v-iterator.left l.w × Within VISIBLE_VISIBLE HAPPENS_END l.initial.w l.w

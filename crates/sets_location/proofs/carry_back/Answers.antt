@@ -1,6 +1,6 @@
 use mathlib.Core.Path.{◌≡◌, refl, sym, ap, ◌∙◌}
 use lib.ListN.{length}
-use Rattle.run.specs.Layout.{table_in}
+use Rattle.run.specs.Layout.{table_of}
 use Prim.Native.Nat.{ℕ, ◌+◌}
 use Rattle.model.specs.Row.{meets, single}
 use Rattle.model.specs.Table.{decode}
@@ -79,7 +79,7 @@ loop-q-preserved c =
     let inv = c.loop-q.invariant in
     let held = c.holds_class.ensures in
     let classes = c.classes-classes.ensures in
-    let e : (length c.if-holds_class.made ≡ length c.args.made.now) × Carrying (table_in c.args.t.now c.args.n) c.args.n c.args.x (c.loop-q.q + 1) c.if-holds_class.made =
+    let e : (length c.if-holds_class.made ≡ length c.args.made.now) × Carrying (table_of c.args.t.now) c.args.t.now.rows c.args.x (c.loop-q.q + 1) c.if-holds_class.made =
     elim c.if-holds_class.branch [
       | then-holds_class v ↦
           carry_taken _ _ _ _ v.made-is inv.1 pre.1.widely (omega (arith, c.agent-agent.ensures, (pre.0.coded _ pre.1.low).agent)) c.agent-agent.ensures c.loop-q-test.true

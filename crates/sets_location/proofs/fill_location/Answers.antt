@@ -1,6 +1,6 @@
 use mathlib.Core.Path.{◌≡◌, refl, sym, ◌∙◌}
 use Prim.Native.Nat.{◌-◌}
-use Rattle.run.specs.Layout.{table_in}
+use Rattle.run.specs.Layout.{table_of}
 use Rattle.sets_of_table.specs.Ask.{few}
 use Rattle.sets_location.specs.Filled.{Filled, carried_none, filled_begin, filled_at, carried_at, filled_empty, filled_taken, filled_left, access_is, widely, carried_left, filled_end}
 use native.Mathlib.Omega.{arith}
@@ -8,7 +8,7 @@ use borrow.Author.Rules.{rules}
 use Rattle.sets_location.proofs.fill_location.Goals as goal
 use Rattle.sets_location.proofs.fill_location.Goals.{Joined-has, then-has, else-has}
 
-joined : (c : Joined-has) → Filled (table_in c.args.t.now c.args.n) c.args.n (c.loop-x.x - 1) c.args.s.now c.clear-2.new.w c.if-has.w
+joined : (c : Joined-has) → Filled (table_of c.args.t.now) c.args.t.now.rows (c.loop-x.x - 1) c.args.s.now c.clear-2.new.w c.if-has.w
 joined c =
     let inv = c.loop-x.invariant in
     let pos = c.loop-x-test.true in

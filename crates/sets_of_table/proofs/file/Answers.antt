@@ -23,7 +23,7 @@ loop-i-preserved c =
 pub returns : goal.returns
 returns c =
     let inv = c.loop-i.invariant in
-    let e : c.loop-i.i ≡ c.args.n = omega arith in
+    let e : c.loop-i.i ≡ c.args.t.now.rows = omega arith in
     record {
       sets = rw e at inv.2;
       frame = within_trans (within_cleared 0 (2 * FILED) (omega arith) c.clear.ensures) inv.3;

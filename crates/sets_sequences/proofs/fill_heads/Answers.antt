@@ -49,7 +49,7 @@ add_head-requires c =
     let b = c.in-Some.ensures.steps.0.bound in
     let m = member_in _ (rows_at (c.into_iter-h-iterator.ensures.into_iter_gives ∙ c.rows-h-items.ensures) (says_rows o.known.tested.kinds.ranked)) (walk_in c.loop-h.invariant.1.0 c.in-Some.ensures.steps.0) in
     let f = within_trans (within_trans (within_cleared HEADS HEADS_END (omega arith) c.clear.ensures) c.loop-h.invariant.0) (within_widen HEADS HEADS_END (omega arith) (omega arith) c.put_bit.ensures.frame) in
-    let bytes = rw c.rows_of.ensures at c.first_byte.ensures in
+    let bytes = rw c.row_bytes.ensures at c.first_byte.ensures in
     (record { low = m.0; ends = c.end_of-end.ensures; ranks = ranks_of _ _ _ _ bytes }, given_kept f pre.0, grid_kept (λ h. absurd (omega arith)) f pre.1)
 
 pub loop-h-preserved : goal.loop-h-preserved

@@ -12,7 +12,7 @@ use Rattle.flags_location.proofs.chains.may_show.Goals as goal
 pub returns-then-not-agent-meets : goal.returns-then-not-agent-meets
 unfolding ◌and◌
 returns-then-not-agent-meets c =
-    let t = c.args.t.now in
+    let t = c.args.t.now.bytes in
     let before = rel c.args.w.now HAPPENS MOMENTS (3 * c.args.i + available_part (row_of (rows_in t) c.args.i)) in
     show_off _ c.args.w.now _ c.args.i _ _ _ _ c.agent-agent.ensures c.agent.ensures (rw c.flags-flags.ensures at c.meets.ensures)
     ((mode_in t).chains or before (3 * c.args.v) or before (3 * c.args.v + 2)) (ap not c.if-not-agent-meets.true)

@@ -16,5 +16,5 @@ loop-a-preserved c = (search rules, any_more _ _ c.loop-a.invariant.1 (sym c.car
 
 pub returns : goal.returns
 returns c =
-    let e : c.loop-a.a ≡ c.args.n = omega arith in
+    let e : c.loop-a.a ≡ c.args.t.now.rows = omega arith in
     sym (rw e at c.loop-a.invariant.1)

@@ -1,4 +1,4 @@
-use Rattle.run.specs.Layout.{table_in}
+use Rattle.run.specs.Layout.{table_of}
 use mathlib.Core.Path.{◌≡◌}
 use mathlib.Core.Bool.{false}
 use Prim.Native.Nat.{◌≤◌}
@@ -7,4 +7,4 @@ use Rattle.flags_location.specs.Chains.{carried_by}
 use Rattle.flags_location.proofs.chains.some_carried.Given as goal
 
 abbrev pub invariant-loop-a : goal.invariant-loop-a
-invariant-loop-a l = (l.a ≤ l.n) × (any_below l.a (carried_by (table_in l.t l.n) l.p.x l.p.y l.p.b) ≡ false)
+invariant-loop-a l = (l.a ≤ l.t.rows) × (any_below l.a (carried_by (table_of l.t) l.p.x l.p.y l.p.b) ≡ false)

@@ -15,5 +15,5 @@ loop-c-preserved c = (search rules, any_more _ _ c.loop-c.invariant.1 (sym c.end
 
 pub returns : goal.returns
 returns c =
-    let e : c.loop-c.c ≡ c.args.n = omega arith in
+    let e : c.loop-c.c ≡ c.args.t.now.rows = omega arith in
     sym (rw e at c.loop-c.invariant.1)

@@ -1,4 +1,4 @@
-use Rattle.run.specs.Layout.{table_in}
+use Rattle.run.specs.Layout.{table_of}
 use mathlib.Core.Path.{◌≡◌}
 use mathlib.Core.Bool.{false}
 use Prim.Native.Nat.{◌≤◌}
@@ -7,4 +7,4 @@ use Rattle.flags_location.specs.Chains.{ends_with}
 use Rattle.flags_location.proofs.chains.some_end.Given as goal
 
 abbrev pub invariant-loop-c : goal.invariant-loop-c
-invariant-loop-c l = (l.c ≤ l.n) × (any_below l.c (ends_with (table_in l.t l.n) l.p.x l.p.y l.p.b l.a) ≡ false)
+invariant-loop-c l = (l.c ≤ l.t.rows) × (any_below l.c (ends_with (table_of l.t) l.p.x l.p.y l.p.b l.a) ≡ false)

@@ -1,4 +1,4 @@
-use Rattle.run.specs.Layout.{table_in}
+use Rattle.run.specs.Layout.{table_of}
 use mathlib.Core.Path.{◌≡◌}
 use mathlib.Core.Bool.{false}
 use Prim.Native.Nat.{◌+◌, ◌≤◌}
@@ -7,4 +7,4 @@ use Rattle.flags_location.specs.Chains.{shown_by}
 use Rattle.flags_location.proofs.chains.some_shown.Given as goal
 
 abbrev pub invariant-loop-v : goal.invariant-loop-v
-invariant-loop-v l = (l.v ≤ l.p.y + 1) × (any_below l.v (shown_by (table_in l.t l.n) l.p.x l.p.y l.p.b l.i) ≡ false)
+invariant-loop-v l = (l.v ≤ l.p.y + 1) × (any_below l.v (shown_by (table_of l.t) l.p.x l.p.y l.p.b l.i) ≡ false)

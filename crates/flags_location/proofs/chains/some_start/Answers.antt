@@ -15,5 +15,5 @@ loop-j-preserved c = (search rules, any_more _ _ c.loop-j.invariant.1 (sym c.sta
 
 pub returns : goal.returns
 returns c =
-    let e : c.loop-j.j ≡ c.args.n = omega arith in
+    let e : c.loop-j.j ≡ c.args.t.now.rows = omega arith in
     sym (rw e at c.loop-j.invariant.1)

@@ -15,5 +15,5 @@ loop-i-preserved c = (search rules, any_more _ _ c.loop-i.invariant.1 (sym c.see
 
 pub returns : goal.returns
 returns c =
-    let e : c.loop-i.i ≡ c.args.n = omega arith in
+    let e : c.loop-i.i ≡ c.args.t.now.rows = omega arith in
     sym (rw e at c.loop-i.invariant.1)

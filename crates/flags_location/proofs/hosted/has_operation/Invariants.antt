@@ -7,4 +7,4 @@ use mathlib.Core.Path.{◌≡◌}
 use Rattle.flags_location.proofs.hosted.has_operation.Given as goal
 
 abbrev pub invariant-loop-i : goal.invariant-loop-i
-invariant-loop-i l = (l.i ≤ l.n) × (any_below l.i (operation_at (rows_in l.t)) ≡ false)
+invariant-loop-i l = (l.i ≤ l.t.rows) × (any_below l.i (operation_at (rows_in l.t.bytes)) ≡ false)

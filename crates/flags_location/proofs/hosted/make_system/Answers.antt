@@ -22,7 +22,7 @@ loop-k-preserved c =
 pub returns : goal.returns
 returns c =
     let inv = c.loop-k.invariant in
-    let e : c.loop-k.k ≡ (mode_in c.args.t.now).dependencies = omega arith in
+    let e : c.loop-k.k ≡ (mode_in c.args.t.now.bytes).dependencies = omega arith in
     made_system _ c.requires.few e (within_trans
     (within_cleared SYSTEM SYSTEM_END (omega arith) c.clear.ensures)
     inv.4) inv.3 c.close.ensures

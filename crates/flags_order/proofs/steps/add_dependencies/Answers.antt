@@ -17,5 +17,5 @@ loop-c-preserved c =
 pub returns : goal.returns
 returns c =
     let inv = c.loop-c.invariant in
-    let e : c.loop-c.c ≡ (mode_in c.args.t.now).dependencies = omega arith in
+    let e : c.loop-c.c ≡ (mode_in c.args.t.now.bytes).dependencies = omega arith in
     rw e at inv.3

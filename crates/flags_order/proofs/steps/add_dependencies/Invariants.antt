@@ -8,4 +8,4 @@ use Rattle.run.specs.Layout.{mode_in}
 use Rattle.flags_order.proofs.steps.add_dependencies.Given as goal
 
 abbrev pub invariant-loop-c : goal.invariant-loop-c
-invariant-loop-c l = (l.c ≤ l.c-end) × (l.c-end ≡ (mode_in l.t).dependencies) × (length l.w ≡ length l.initial.w) × Added STEP STEP_END STEP MOMENTS (3 * l.n) (system_to (mode_in l.t) l.c) l.initial.w l.w
+invariant-loop-c l = (l.c ≤ l.c-end) × (l.c-end ≡ (mode_in l.t.bytes).dependencies) × (length l.w ≡ length l.initial.w) × Added STEP STEP_END STEP MOMENTS (3 * l.t.rows) (system_to (mode_in l.t.bytes) l.c) l.initial.w l.w

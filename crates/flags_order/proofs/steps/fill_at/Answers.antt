@@ -17,5 +17,5 @@ loop-k-preserved c =
 
 pub returns : goal.returns
 returns c =
-    let e : c.loop-k.k ≡ 3 * c.args.n = omega arith in
+    let e : c.loop-k.k ≡ 3 * c.args.t.now.rows = omega arith in
     rw e at c.loop-k.invariant.2

@@ -12,7 +12,7 @@ loop-j-init c = (search rules, refl, rows_none _ _ _ _)
 pub loop-j-preserved : goal.loop-j-preserved
 loop-j-preserved c =
     let inv = c.loop-j.invariant in
-    let made : RowsMade c.args.t.now c.args.n c.args.s (c.loop-j.j + 1) c.clear.new.w c.if-holds_at.w =
+    let made : RowsMade c.args.t.now.bytes c.args.t.now.rows c.args.s (c.loop-j.j + 1) c.clear.new.w c.if-holds_at.w =
     elim c.if-holds_at.branch [
       | then-holds_at v ↦ rows_more _ _ _ _ _ _ c.if-holds_at.w (omega arith) inv.2 (rw v.w-is v.fill_at.ensures)
       | else-holds_at v ↦ rows_skip _ _ _ _ _ _ c.if-holds_at.w (sym c.holds_at.ensures ∙ v.if-holds_at.false) inv.2 v.w-is
@@ -22,6 +22,6 @@ loop-j-preserved c =
 
 pub returns : goal.returns
 returns c =
-    let e : c.loop-j.j ≡ c.args.n = omega arith in
+    let e : c.loop-j.j ≡ c.args.t.now.rows = omega arith in
     steps_made _ _ _ _ _ _ (omega arith) (omega arith) c.requires.2 c.clear.ensures
     (rw e at c.loop-j.invariant.2)

@@ -2,11 +2,11 @@ use native.Mathlib.Omega.{arith}
 use Rattle.flags_order.specs.System.{past_first, past_second, added_put}
 use Rattle.flags_order.proofs.steps.put_dependency.Goals as goal
 
-pub returns-then-n-x : goal.returns-then-n-x
-returns-then-n-x c = past_first _ _ _ _ _ _ c.first_of-x.ensures c.second_of-y.ensures c.if-n-x.true
+pub returns-then-t-x : goal.returns-then-t-x
+returns-then-t-x c = past_first _ _ _ _ _ _ c.first_of-x.ensures c.second_of-y.ensures c.if-t-x.true
 
-pub returns-then-n-y : goal.returns-then-n-y
-returns-then-n-y c = past_second _ _ _ _ _ _ c.first_of-x.ensures c.second_of-y.ensures c.if-n-y.true
+pub returns-then-t-y : goal.returns-then-t-y
+returns-then-t-y c = past_second _ _ _ _ _ _ c.first_of-x.ensures c.second_of-y.ensures c.if-t-y.true
 
 pub returns : goal.returns
 returns c =

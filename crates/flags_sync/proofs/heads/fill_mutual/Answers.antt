@@ -24,11 +24,11 @@ pub loop-i-preserved : goal.loop-i-preserved
 loop-i-preserved c =
     let inv = c.loop-j.invariant in
     let out = c.loop-i.invariant in
-    let e : c.loop-j.j ≡ c.args.n = omega arith in
+    let e : c.loop-j.j ≡ c.args.t.now.rows = omega arith in
     (search rules, inv.1 ∙ out.1, grid_fill_more _ _ _ _ _ _ _ _ out.2 (rw e at inv.2))
 
 pub returns : goal.returns
 returns c =
-    let e : c.loop-i.i ≡ c.args.n = omega arith in
+    let e : c.loop-i.i ≡ c.args.t.now.rows = omega arith in
     made_filled MUTUAL MUTUAL_END GRID _ _ _ _ _ (omega arith) (omega arith) (omega arith)
     c.clear.ensures (rw e at c.loop-i.invariant.2)

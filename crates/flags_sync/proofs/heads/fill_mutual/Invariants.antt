@@ -1,4 +1,4 @@
-use Rattle.run.specs.Layout.{table_in}
+use Rattle.run.specs.Layout.{table_of}
 use Rattle.model.specs.Scope.{mutually}
 use Rattle.work_area.specs.Regions.{MUTUAL, GRID}
 use mathlib.Core.Path.{◌≡◌}
@@ -8,7 +8,7 @@ use Rattle.bits.specs.Fill.{row_fill, grid_fill}
 use Rattle.flags_sync.proofs.heads.fill_mutual.Given as goal
 
 abbrev pub invariant-loop-j : goal.invariant-loop-j
-invariant-loop-j l = (l.j ≤ l.n) × (length l.w ≡ length l.initial.w) × (l.w ≡ row_fill (mutually (table_in l.t l.n) l.i) l.initial.w (MUTUAL * 64 + l.i * (GRID * 64)) l.j)
+invariant-loop-j l = (l.j ≤ l.t.rows) × (length l.w ≡ length l.initial.w) × (l.w ≡ row_fill (mutually (table_of l.t) l.i) l.initial.w (MUTUAL * 64 + l.i * (GRID * 64)) l.j)
 
 abbrev pub invariant-loop-i : goal.invariant-loop-i
-invariant-loop-i l = (l.i ≤ l.n) × (length l.w ≡ length l.initial.w) × (l.w ≡ grid_fill (mutually (table_in l.t l.n)) l.initial.w (MUTUAL * 64) (GRID * 64) (l.n) l.i)
+invariant-loop-i l = (l.i ≤ l.t.rows) × (length l.w ≡ length l.initial.w) × (l.w ≡ grid_fill (mutually (table_of l.t)) l.initial.w (MUTUAL * 64) (GRID * 64) (l.t.rows) l.i)

@@ -37,11 +37,11 @@ pub loop-a-preserved : goal.loop-a-preserved
 loop-a-preserved c =
     let inv = c.loop-b.invariant in
     let out = c.loop-a.invariant in
-    let e : c.loop-b.b ≡ c.args.n = omega arith in
+    let e : c.loop-b.b ≡ c.args.t.now.rows = omega arith in
     (search rules, inv.1 ∙ out.1, inv.2, grid_fill_more _ _ _ _ _ _ _ _ out.3 (rw e at inv.3))
 
 pub returns : goal.returns
 returns c =
-    let e : c.loop-a.a ≡ c.args.n = omega arith in
+    let e : c.loop-a.a ≡ c.args.t.now.rows = omega arith in
     made_filled SYNC SYNC_END GRID _ _ _ _ _ (omega arith) (omega arith) (omega arith) c.clear.ensures
     (rw e at c.loop-a.invariant.3)

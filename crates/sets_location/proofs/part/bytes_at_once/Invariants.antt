@@ -1,10 +1,10 @@
 use Prim.Native.Nat.{◌-◌}
 use Rattle.model.specs.Limits.{ROWS}
-use Rattle.run.specs.Layout.{table_in}
+use Rattle.run.specs.Layout.{table_of}
 use Rattle.sets_of_rows.specs.First.{next}
 use Rattle.sets_of_rows.specs.Walk.{Walk}
 use Rattle.sets_location.specs.Elements.{BitsTo, byte_to}
 use Rattle.sets_location.proofs.part.bytes_at_once.Given as goal
 
 abbrev pub invariant-loop-a : goal.invariant-loop-a
-invariant-loop-a l = Walk l.fn.g.parts l.a-iterator.left × BitsTo (byte_to (table_in l.t l.n) l.w l.x l.y l.fn.g.parts) l.m (next l.a-iterator.left)
+invariant-loop-a l = Walk l.fn.g.parts l.a-iterator.left × BitsTo (byte_to (table_of l.t) l.w l.x l.y l.fn.g.parts) l.m (next l.a-iterator.left)

@@ -1,7 +1,6 @@
 use Rattle.std.proofs.Common.{subst, sym}
 use Prim.Native.Nat.{ℕ}
 use mathlib.Core.Bool.{Bool}
-use Rattle.run.specs.Layout.{table_in}
 use Rattle.sets_of_rows.specs.Rows.{Rows}
 use Rattle.sets_location.specs.Seen.{sees, sees_after, sees_onward}
 use Rattle.sets_location.proofs.part.seen_by.Goals as goal

@@ -9,4 +9,4 @@ use Rattle.sets_of_table.specs.Number.{key_in, Numbered}
 use Rattle.sets_of_table.proofs.number.number.Given as goal
 
 abbrev pub invariant-loop-i : goal.invariant-loop-i
-invariant-loop-i l = (length l.keys ≡ length l.initial.keys) × (length l.loc ≡ length l.initial.loc) × (Walk l.fn.x l.i-iterator.left × Numbered (key_in l.whole (rows_in l.t)) l.fn.x (next l.i-iterator.left) l.keys l.loc l.l)
+invariant-loop-i l = (length l.keys ≡ length l.initial.keys) × (length l.loc ≡ length l.initial.loc) × (Walk l.fn.x l.i-iterator.left × Numbered (key_in l.whole (rows_in l.t.bytes)) l.fn.x (next l.i-iterator.left) l.keys l.loc l.l)

@@ -7,4 +7,4 @@ use Rattle.sets_order.specs.Depends.{DependsTo}
 use Rattle.sets_order.proofs.system.fill_depends.Given as goal
 
 abbrev pub invariant-loop-k : goal.invariant-loop-k
-invariant-loop-k l = (l.k ≤ l.k-end) × (l.k-end ≡ (mode_in l.t).dependencies) × DependsTo l.n (mode_in l.t).first (mode_in l.t).second l.k l.ends l.w × Within DEPENDS DEPENDS_END l.initial.w l.w
+invariant-loop-k l = (l.k ≤ l.k-end) × (l.k-end ≡ (mode_in l.t.bytes).dependencies) × DependsTo l.t.rows (mode_in l.t.bytes).first (mode_in l.t.bytes).second l.k l.ends l.w × Within DEPENDS DEPENDS_END l.initial.w l.w

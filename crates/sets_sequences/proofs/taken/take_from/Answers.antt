@@ -9,16 +9,16 @@ source-source-requires c = let r = c.requires in let b = few r.given.opened in o
 
 pub take-requires : goal.take-requires
 take-requires c =
-    (c.if-source-n.true, c.requires)
+    (c.if-source-t.true, c.requires)
 
 pub shape_of-w : goal.shape_of-w
 shape_of-w c = c.take.ensures.frame.len
 
-pub returns-then-source-n : goal.returns-then-source-n
+pub returns-then-source-t : goal.returns-then-source-t
 unfolding decode
-returns-then-source-n c =
-    from_row_lem (source_is _ _ c.requires.atomic c.source-source.ensures) c.if-source-n.true c.take.ensures
+returns-then-source-t c =
+    from_row_lem (source_is _ _ c.requires.atomic c.source-source.ensures) c.if-source-t.true c.take.ensures
 
-pub returns-else-source-n : goal.returns-else-source-n
+pub returns-else-source-t : goal.returns-else-source-t
 unfolding decode
-returns-else-source-n c = from_none _ (source_is _ _ c.requires.atomic c.source-source.ensures) c.if-source-n.false
+returns-else-source-t c = from_none _ (source_is _ _ c.requires.atomic c.source-source.ensures) c.if-source-t.false

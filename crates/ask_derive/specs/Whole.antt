@@ -11,8 +11,8 @@ use Rattle.finite.specs.Cycle.{length_trail, length_along, trail_cong}
 use Rattle.bits.specs.Bit.{zeros}
 use Rattle.bits.specs.Matrix.{rel}
 use Rattle.bits.specs.Within.{Within, within_refl, within_trans, within_widen, zeros_within}
-use Rattle.model.specs.declared.Admission.{Admission}
-use Rattle.model.specs.declared.Admission.TheVariants.{Admitted, Refused}
+use Rattle.model.specs.Refusal.{Admission}
+use Rattle.model.specs.Refusal.{Admitted, Refused}
 use Rattle.model.specs.declared.DeriveAnswer.{DeriveAnswer}
 use Rattle.model.specs.declared.DeriveAnswer.TheVariants
 use Rattle.model.specs.Limits.{ROWS, WORK, STEPS, CLASS_SETS}

@@ -4,8 +4,8 @@ use Rattle.std.proofs.Common.{sym, ap, ◌∙◌, arith, le-leb}
 use Rattle.std.proofs.Math.ListN.{get_or-append}
 use Rattle.finite.specs.Logic.{◌and◌, and_true}
 use Rattle.finite.specs.Lists.{tabulate, length_tabulate}
-use Rattle.model.specs.declared.Admission.{Admission}
-use Rattle.model.specs.declared.Admission.TheVariants.{Admitted, Refused}
+use Rattle.model.specs.Refusal.{Admission}
+use Rattle.model.specs.Refusal.{Admitted, Refused}
 use Rattle.model.specs.declared.CheckAnswer.{CheckAnswer}
 use Rattle.model.specs.declared.CheckAnswer.TheVariants as checks
 use Rattle.model.specs.declared.FillAnswer.{FillAnswer}

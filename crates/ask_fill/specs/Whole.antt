@@ -5,8 +5,8 @@ use Rattle.std.proofs.Common.{sym, ap, ap₂, ◌∙◌}
 use Rattle.finite.specs.Logic.{◌and◌}
 use Rattle.finite.specs.Lists.{tabulate}
 use Rattle.bits.specs.Bit.{zeros}
-use Rattle.model.specs.declared.Admission.{Admission}
-use Rattle.model.specs.declared.Admission.TheVariants.{Admitted, Refused}
+use Rattle.model.specs.Refusal.{Admission}
+use Rattle.model.specs.Refusal.{Admitted, Refused}
 use Rattle.model.specs.declared.FillAnswer.{FillAnswer}
 use Rattle.model.specs.declared.FillAnswer.TheVariants
 use Rattle.model.specs.Limits.{WORK, SOURCES}

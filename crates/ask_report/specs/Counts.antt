@@ -6,7 +6,7 @@ use Rattle.std.specs.Float.{binary64}
 use Rattle.std.specs.Float.Ieee.{div, of_int}
 use Rattle.model.specs.declared.Share.{Share}
 use Rattle.model.specs.declared.Share.TheVariants.{Of, NoPairs}
-use Rattle.model.specs.declared.ReportAnswer.TheVariants as told
+use Rattle.model.specs.Report as told
 use Rattle.model.specs.Table.{Table}
 use Rattle.model.specs.Report.{racing, share_of, report_of, with_share, report_on}
 use Rattle.model_laws.specs.ShareLaws.{MOST, divided}
@@ -33,11 +33,11 @@ module _ {t : Table} {c : Counts} (h : Counted t c) {r : ℕ} {s : Share} (rest 
   unfolding report_on
   shared = rw (← racing_is, ← h.conflicting, share_is) refl
 
-  pub counted_none : s ≡ NoPairs → told.NoPairs ≡ report_on t
+  pub counted_none : s ≡ NoPairs → told.no_pairs ≡ report_on t
   unfolding with_share
   counted_none e = ap (λ (z : Share). with_share z t) (sym e) ∙ shared
 
   pub counted_some : (f : Float) → s ≡ Of f
-      → told.Report (record { conflicting = c.conflicting; mutuals = c.mutuals; ordered = c.ordered; racing = r; share = f }) ≡ report_on t
+      → told.reported (record { conflicting = c.conflicting; mutuals = c.mutuals; ordered = c.ordered; racing = r; share = f }) ≡ report_on t
   unfolding with_share report_of
   counted_some f e = rw (h.conflicting, h.mutuals, h.ordered, racing_is) refl ∙ (ap (λ (z : Share). with_share z t) (sym e) ∙ shared)

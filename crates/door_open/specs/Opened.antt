@@ -5,8 +5,8 @@ use Rattle.std.proofs.Common.{sym, ap, ◌∙◌, arith}
 use Rattle.std.proofs.Math.Decide.{dec_lt}
 use Rattle.std.proofs.Math.ListN.{get_or-eq_default}
 use Rattle.finite.specs.Lists.{tabulate, length_tabulate, get_d_tabulate}
-use Rattle.model.specs.declared.Admission.{Admission}
-use Rattle.model.specs.declared.Admission.TheVariants.{Admitted, Refused}
+use Rattle.model.specs.Refusal.{Admission}
+use Rattle.model.specs.Refusal.{Admitted, Refused}
 use Rattle.model.specs.Limits.{WORK}
 use Rattle.model.specs.Table.{Mode, mode_of, byte_of, pair_of, row_of, source_of, atomic_source, decode, table_under, sources_of}
 use Rattle.model.specs.Header.{ROW_BYTES, rows_at, row_bytes, places_of, pair_at}

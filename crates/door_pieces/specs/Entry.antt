@@ -11,8 +11,8 @@ use Rattle.std.proofs.Math.ListN.{get_or-append}
 use Rattle.std.proofs.lemmas.Bool.{not-false}
 use Rattle.finite.specs.Logic.{◌and◌, split, not_out}
 use Rattle.bits.specs.Bit.{zeros, length_zeros, zeros_in, zeros_out}
-use Rattle.model.specs.declared.Admission.{Admission}
-use Rattle.model.specs.declared.Admission.TheVariants.{Admitted, Refused}
+use Rattle.model.specs.Refusal.{Admission}
+use Rattle.model.specs.Refusal.{Admitted, Refused}
 use Rattle.model.specs.Limits.{ROWS, WORK}
 use Rattle.model.specs.Table.{Mode, mode_of, row_of, table_under, table_of}
 use Rattle.model.specs.Header.{rows_at, row_bytes, places_of}

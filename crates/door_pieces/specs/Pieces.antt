@@ -2,11 +2,11 @@
 -- what they are refused for, and what is answered of them: that of the joined table.
 use Rattle.std.specs.Prelude.{Bool, cond, List, [], ◌∷◌, ◌++◌, ℕ, ◌+◌, ◌-◌, ◌*◌, ◌/◌, ◌%◌, length, get_or, take, drop, ltb, leb, eqb}
 use Rattle.finite.specs.Lists.{tabulate}
-use Rattle.model.specs.declared.Admission.{Admission}
-use Rattle.model.specs.declared.Admission.TheVariants.{Refused}
+use Rattle.model.specs.Refusal.{Admission}
+use Rattle.model.specs.Refusal.{Refused}
 use Rattle.model.specs.declared.Reason.{Reason}
-use Rattle.model.specs.declared.ReportAnswer.{ReportAnswer}
-use Rattle.model.specs.declared.ReportAnswer.TheVariants as told
+use Rattle.model.specs.Report.{Told}
+use Rattle.model.specs.Report as told
 use Rattle.model.specs.Limits.{ROWS, CYCLE, SOURCES, STEPS}
 use Rattle.model.specs.Header.{HEADER, ROW_BYTES, version_at, agents_at, rows_at, zero_at, rows_begin, row_bytes, dependency_bytes}
 use Rattle.model.specs.Refusal.{buffers_fit, hosts_fault, admission}
@@ -68,9 +68,9 @@ fill_both chains f s work buffer =
     cond (buffers_fit SOURCES work buffer) (of_both outcome.refused (λ t. outcome.fill chains t work buffer) f s) (outcome.refused 11 0)
 
 -- its buffers are left as a check leaves them
-unfoldable pub report_both : Bool → List ℕ → List ℕ → ℕ → ℕ → ReportAnswer
+unfoldable pub report_both : Bool → List ℕ → List ℕ → ℕ → ℕ → Told
 report_both chains f s work buffer =
-    cond (buffers_fit CYCLE work buffer) (of_both told.Refused (λ t. report chains t work buffer) f s) (told.Refused 11 0)
+    cond (buffers_fit CYCLE work buffer) (of_both told.refused (λ t. report chains t work buffer) f s) (told.refused 11 0)
 
 unfoldable pub derive_both : List ℕ → List ℕ → ℕ → ℕ → ℕ → ℕ → reason.Derived
 derive_both f s m k work buffer =

@@ -6,15 +6,15 @@ use Rattle.std.specs.Prelude.{◌≡◌, true, ℕ, ◌+◌, ◌≤◌, ◌<◌}
 use Rattle.std.proofs.Math.Path.{refl, ap}
 use Rattle.std.proofs.Common.{sym, ◌∙◌, arith}
 use mathlib.Core.List.{List, []}
-use Rattle.model.specs.declared.Admission.{Admission}
-use Rattle.model.specs.declared.Admission.TheVariants.{Admitted, Refused}
+use Rattle.model.specs.Refusal.{Admission}
+use Rattle.model.specs.Refusal.{Admitted, Refused}
 use Rattle.model.specs.Table.{row_of, source_of}
 use Rattle.model.specs.Header.{rows_at, row_bytes}
 use Rattle.model.specs.Refusal.{admission}
 use Rattle.model_laws.specs.AdmissionLaws.{sound_admitted, admitted_sound}
 use Rattle.door_step.specs.declared.RowReader.{RowReader}
 use Rattle.door_step.specs.declared.Step.TheVariants.{Row, End}
-use Rattle.door_step.specs.declared.Stepped.TheVariants as answer
+use Rattle.door_step.specs.Steps as answer
 use Rattle.door_step.specs.Steps.{step_at, next_at, opened_part, steps_of, stepped, stepped_at}
 use Rattle.door_step.specs.StepLaws.{step_end, step_row, next_stays, next_moves, steps_rows, steps_end}
 

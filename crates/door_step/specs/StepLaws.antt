@@ -5,11 +5,11 @@ use Rattle.std.proofs.Math.Decide.{dec_lt}
 use Rattle.std.proofs.lemmas.Bool.{lt-leb}
 use Rattle.model.specs.Table.{row_of, source_of}
 use Rattle.model.specs.Header.{rows_at, row_bytes}
-use Rattle.model.specs.declared.Admission.{Admission}
+use Rattle.model.specs.Refusal.{Admission}
 use Rattle.model.specs.Refusal.{admission}
 use Rattle.door_step.specs.declared.RowReader.{RowReader}
 use Rattle.door_step.specs.declared.Step.{Step}
-use Rattle.door_step.specs.declared.Stepped.{Stepped}
+use Rattle.door_step.specs.Steps.{StepAnswer}
 use Rattle.door_step.specs.declared.Step.TheVariants.{Row, End}
 use Rattle.door_step.specs.Steps.{step_at, next_at, opened_part, moved, moved_by, steps_of, stepped, stepped_at}
 
@@ -80,7 +80,7 @@ steps_end n r z l =
 
 -- ---- one answer of what was opened and what its step gave
 
-pub stepped_is : (r : Stepped) (a : Admission) (t : List ℕ) (x : Step) (s : List ℕ) (i : ℕ) → a ≡ admission true s → t ≡ opened_part (admission true s) s
+pub stepped_is : (r : StepAnswer) (a : Admission) (t : List ℕ) (x : Step) (s : List ℕ) (i : ℕ) → a ≡ admission true s → t ≡ opened_part (admission true s) s
     → x ≡ step_at t i → r ≡ stepped a x (next_at t i) → r ≡ stepped_at s i
 unfolding stepped_at
 stepped_is r a t x s i admitted opened given answered =

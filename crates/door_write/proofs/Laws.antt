@@ -9,25 +9,25 @@ use lib.Seq.{paste, length-paste, take-paste, take_all, ext_get_or, get_or-take}
 use borrow.Author.Tests.{eq-eqb, ne_eqb, le-leb, lt-leb, lt-ltb, le-ltb, leb-true}
 use Rattle.finite.specs.Logic.{split}
 use Rattle.finite.specs.Lists.{tabulate, length_tabulate, get_d_tabulate, Written, written_more, written_all}
-use Rattle.model.specs.declared.Admission.{Admission}
-use Rattle.model.specs.declared.Admission.TheVariants.{Admitted, Refused}
+use Rattle.model.specs.Refusal.{Admission}
+use Rattle.model.specs.Refusal.{Admitted, Refused}
 use Rattle.model.specs.declared.Refusal.{Refusal}
 use Rattle.model.specs.Limits.{AGENTS, ROWS, DEPENDENCIES}
 use Rattle.model.specs.Refusal.{admission, refusal_of, when_admitted}
 use Rattle.model.specs.Table.{dependency_count}
 use Rattle.model.specs.Header.{HEADER, DEPENDENCY_BYTES, ROW_BYTES, version_at, agents_at, rows_at, places_of, dependency_bytes}
 use Rattle.model_laws.specs.AdmissionLaws.{Sound, sound_admitted, admitted_sound, agents_fit, rows_fit, dependencies_fit_lem}
-use Rattle.door_write.specs.declared.Entry.{Entry}
+use Rattle.model.specs.declared.Entry.{Entry}
 use Rattle.door_write.specs.declared.Dependencies.{Dependencies}
-use Rattle.door_write.specs.declared.WriteAnswer.{WriteAnswer}
-use Rattle.door_write.specs.declared.WriteAnswer.TheVariants as Answer
+use Rattle.door_write.specs.Answer.{WriteAnswer}
+use Rattle.door_write.specs.Answer as Answer
 use Rattle.door_write.specs.Encode.{half, with_hosts, places_size, dependencies_size, table_size, header_list, number_of, place_number, place_byte, row_list}
 use Rattle.door_write.specs.Encode.{nothing, entry_at, entry_byte, dependency_number, dependency_byte, places_part, rows_part, dependencies_part, encode}
 use Rattle.door_write.specs.Encode.{entries_in, entries_of, dependencies_of}
 use Rattle.door_write.specs.Answer.{values_fault, room_answer, write_answer, buffer_after}
 use Rattle.door_write.specs.Parts.{PLACE_NUMBERS, agents_in, places_in, rows_in, dependencies_in, parts_answer, parts_table}
-use Rattle.door_write.specs.declared.ReadAnswer.{ReadAnswer}
-use Rattle.door_write.specs.declared.ReadAnswer.TheVariants as Given
+use Rattle.door_write.specs.Read.{ReadAnswer}
+use Rattle.door_write.specs.Read as Given
 use Rattle.door_write.specs.Read.{place_number_at, place_numbers, end_of, end_numbers, fronted, lent_fit, read_answer, places_after, rows_after, dependencies_after}
 use Rattle.door_write.specs.ValueLaws.{Fits, places_most, after_most, size_most, header_length, encode_length, values_fit, agents_few, rows_few, after_few}
 

@@ -6,10 +6,10 @@ use Rattle.model.specs.Limits.{AGENTS, ROWS, DEPENDENCIES}
 use Rattle.model.specs.Scope.{SHADER, QUEUE, agent_kind}
 use Rattle.model.specs.Header.{VERSION_PLAIN, VERSION_HOSTS}
 use Rattle.model.specs.Refusal.{admission, when_admitted}
-use Rattle.door_write.specs.declared.Entry.{Entry}
+use Rattle.model.specs.declared.Entry.{Entry}
 use Rattle.door_write.specs.declared.Dependencies.{Dependencies}
-use Rattle.door_write.specs.declared.WriteAnswer.{WriteAnswer}
-use Rattle.door_write.specs.declared.WriteAnswer.TheVariants as Answer
+use Rattle.door_write.specs.Answer.{WriteAnswer}
+use Rattle.door_write.specs.Answer as Answer
 use Rattle.door_write.specs.Encode.{with_hosts, table_size, encode}
 
 -- ---- 2, 3, 16, 17: values that no bytes are made of

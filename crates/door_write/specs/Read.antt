@@ -7,8 +7,8 @@ use Rattle.model.specs.Table.{dependency_count}
 use Rattle.model.specs.Header.{ROW_BYTES, version_at, agents_at, rows_at, places_of, dependency_bytes}
 use Rattle.model.specs.Refusal.{admission, when_admitted}
 use Rattle.door_write.specs.declared.Dependencies.{Dependencies}
-use Rattle.door_write.specs.declared.ReadAnswer.{ReadAnswer}
-use Rattle.door_write.specs.declared.ReadAnswer.TheVariants as Answer
+use Rattle.door_write.specs.Read.{ReadAnswer}
+use Rattle.door_write.specs.Read as Answer
 use Rattle.door_write.specs.Encode.{number_of, rows_part, entries_of, dependencies_of}
 use Rattle.door_write.specs.Parts.{PLACE_NUMBERS}
 

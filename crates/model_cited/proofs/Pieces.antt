@@ -2,7 +2,9 @@
 -- crates/model_promises/specs/Main.antt: each proof names a theorem of a page beside this one. The notation, the words
 -- and the meanings are those of specs/Pieces.antt.
 use Rattle.std.specs.Prelude.{◌≡◌, Bool, List, [], ◌++◌, ◌⊎◌, ◌↔◌, ℕ, ◌+◌, ◌/◌, ◌<◌, length}
-use Rattle.model.specs.declared.{Admission.Admission, Reason.Reason, ReportAnswer.ReportAnswer}
+use Rattle.model.specs.declared.Reason.{Reason}
+use Rattle.model.specs.Refusal.{Admission}
+use Rattle.model.specs.Report.{Told}
 use Rattle.model.specs.Limits.{CYCLE, SOURCES}
 use Rattle.model.specs.Header.{ROW_BYTES, version_at, agents_at, rows_at, places_of, row_bytes, dependency_bytes}
 use Rattle.model.specs.Table.{table_of}
@@ -48,8 +50,8 @@ module _ (chains : Bool) (f s : List ℕ) (work buffer : ℕ) where
   fill2_means = beside.PiecesExactly.fill_exactly chains f s work buffer
 
   -- a report
-  pub report2_means : (a : ReportAnswer) → (report_both chains f s work buffer ≡ a)
-      ↔ OfPair f s (Short CYCLE work buffer) ReportAnswer.Refused (λ t. ReportMeans chains t work buffer) a
+  pub report2_means : (a : Told) → (report_both chains f s work buffer ≡ a)
+      ↔ OfPair f s (Short CYCLE work buffer) Told.refused (λ t. ReportMeans chains t work buffer) a
   report2_means = beside.PiecesExactly.report_exactly chains f s work buffer
 
 module _ (f s : List ℕ) (m k : ℕ) where

@@ -6,9 +6,9 @@ use native.Mathlib.Omega.{arith}
 use Rattle.std.proofs.Math.Decide.{dec_lt, ℕ_discrete}
 use borrow.Author.Tests.{ne_eqb, le-leb, lt-leb}
 use Rattle.finite.specs.Logic.{which, not_both}
-use Rattle.model.specs.declared.Admission.TheVariants.{Refused}
+use Rattle.model.specs.Refusal.{Refused}
 use Rattle.model.specs.declared.Reason.{Reason}
-use Rattle.model.specs.declared.ReportAnswer.{ReportAnswer}
+use Rattle.model.specs.Report.{Told}
 use Rattle.model.specs.Limits.{ROWS, CYCLE, SOURCES, STEPS}
 use Rattle.model.specs.Header.{HEADER, ROW_BYTES, version_at, agents_at, rows_at, rows_begin, places_of, row_bytes}
 use Rattle.model.specs.Table.{table_of}
@@ -185,8 +185,8 @@ module _ (chains : Bool) (f s : List ℕ) (work buffer : ℕ) where
       bytes : PairPasses f s → Bytes (joined f s)
       bytes h = bytes_joined f s (pair_none f s h) b c
 
-  pub report_exactly : (a : ReportAnswer) → (report_both chains f s work buffer ≡ a)
-      ↔ OfPair f s (Short CYCLE work buffer) ReportAnswer.Refused (λ t. means.ReportMeans chains t work buffer) a
+  pub report_exactly : (a : Told) → (report_both chains f s work buffer ≡ a)
+      ↔ OfPair f s (Short CYCLE work buffer) Told.refused (λ t. means.ReportMeans chains t work buffer) a
   unfolding report_both
   report_exactly a = (
     door_means f s _ _ _ CYCLE work buffer a (λ h. (means.report_means chains (joined f s) work buffer a).0),

@@ -7,7 +7,10 @@ use Rattle.model.specs.Table.{row_of, source_of}
 use Rattle.model.specs.Header.{ROW_BYTES, agents_at, rows_at, row_bytes}
 use Rattle.door_write.specs.Encode.{row_list}
 use Rattle.door_write.specs.Promise.{row_bytes_again}
-use Rattle.door_step.specs.declared.{RowReader.RowReader, Step.Step, Stepped.Stepped}
+use Rattle.door_step.specs.declared.RowReader.{RowReader}
+use Rattle.std.specs.Prelude.{Option}
+use Rattle.model.specs.declared.Entry.{Entry}
+use Rattle.door_step.specs.Steps.{StepAnswer}
 use Rattle.door_step.specs.Steps.{steps_of, stepped_at}
 use Rattle.door_step.specs.Promise.{opened_rows, opened_end, refused_end, from_refused, from_row_lem, from_end}
 use Rattle.model_promises.specs.Terms.{Bytes, Fillable, Unfillable}
@@ -19,10 +22,10 @@ use Rattle.model_cited.specs.StepExactly.{Means}
 
 module _ (s : List ℕ) (i : ℕ) where
   row_here : Fillable s → i < rows_at s
-      → stepped_at s i ≡ Stepped.Row (row_of (row_bytes s) i) (source (source_of (row_bytes s) i)) (i + 1)
+      → stepped_at s i ≡ StepAnswer.Row (row_of (row_bytes s) i) (source (source_of (row_bytes s) i)) (i + 1)
   row_here e l = from_row_lem s (agents_at s) (rows_at s) e i l
 
-  end_here : Fillable s → rows_at s ≤ i → stepped_at s i ≡ Stepped.End i
+  end_here : Fillable s → rows_at s ≤ i → stepped_at s i ≡ StepAnswer.End i
   end_here e l = from_end s (agents_at s) (rows_at s) e i l
 
   -- what is said is true
@@ -34,13 +37,13 @@ module _ (s : List ℕ) (i : ℕ) where
       go (inl e) (yes l) = subst (Means s i) (sym (row_here e l)) (e, l, refl, refl, refl)
       go (inl e) (no l) = subst (Means s i) (sym (end_here e (omega arith))) (e, omega arith, refl)
 
-  pub exactly : (x : Stepped) → (stepped_at s i ≡ x) ↔ Means s i x
+  pub exactly : (x : StepAnswer) → (stepped_at s i ≡ x) ↔ Means s i x
   exactly x = (λ e. subst (Means s i) e said, back x)
     where
-      back : (x : Stepped) → Means s i x → stepped_at s i ≡ x
-      back (Stepped.Refused n j) e = from_refused s n j e i
-      back (Stepped.Row r c next) (e, l, p, q, n) = row_here e l ∙ rw (p, q, n) refl
-      back (Stepped.End next) (e, l, n) = end_here e l ∙ rw n refl
+      back : (x : StepAnswer) → Means s i x → stepped_at s i ≡ x
+      back (StepAnswer.Refused n j) e = from_refused s n j e i
+      back (StepAnswer.Row r c next) (e, l, p, q, n) = row_here e l ∙ rw (p, q, n) refl
+      back (StepAnswer.End next) (e, l, n) = end_here e l ∙ rw n refl
 
 -- ---- a call of a reader
 
@@ -76,22 +79,22 @@ module _ (s : List ℕ) (i : ℕ) (r : RowReader) (o : Opens s r) where
 -- ---- what follows
 
 pub row_bytes_lem : (s : List ℕ) → Bytes s → (i : ℕ) (r : Row) (c : Source) (next : ℕ)
-    → stepped_at s i ≡ Stepped.Row r c next
+    → stepped_at s i ≡ StepAnswer.Row r c next
     → row_list r c.0 ≡ take ROW_BYTES (drop (ROW_BYTES * i) (row_bytes s))
 row_bytes_lem s bytes i r c next e =
-    let m = (exactly s i (Stepped.Row r c next)).0 e in
+    let m = (exactly s i (StepAnswer.Row r c next)).0 e in
     rw (m.2, m.3) (row_bytes_again s bytes (agents_at s) (rows_at s) m.0 i m.1)
 
-pub refused_everywhere : (s : List ℕ) (i n j : ℕ) → stepped_at s i ≡ Stepped.Refused n j
-    → (k : ℕ) → stepped_at s k ≡ Stepped.Refused n j
-refused_everywhere s i n j e k = (exactly s k (Stepped.Refused n j)).1 ((exactly s i (Stepped.Refused n j)).0 e)
+pub refused_everywhere : (s : List ℕ) (i n j : ℕ) → stepped_at s i ≡ StepAnswer.Refused n j
+    → (k : ℕ) → stepped_at s k ≡ StepAnswer.Refused n j
+refused_everywhere s i n j e k = (exactly s k (StepAnswer.Refused n j)).1 ((exactly s i (StepAnswer.Refused n j)).0 e)
 
-pub end_stays : (s : List ℕ) (i next : ℕ) → stepped_at s i ≡ Stepped.End next
-    → (k : ℕ) → i ≤ k → stepped_at s k ≡ Stepped.End k
+pub end_stays : (s : List ℕ) (i next : ℕ) → stepped_at s i ≡ StepAnswer.End next
+    → (k : ℕ) → i ≤ k → stepped_at s k ≡ StepAnswer.End k
 end_stays s i next e k l =
-    let m = (exactly s i (Stepped.End next)).0 e in
+    let m = (exactly s i (StepAnswer.End next)).0 e in
     let h = m.1 in
-    (exactly s k (Stepped.End k)).1 (m.0, omega arith, refl)
+    (exactly s k (StepAnswer.End k)).1 (m.0, omega arith, refl)
 
 pub next_end_stays : (s : List ℕ) (r : RowReader) → Opens s r → (i : ℕ) → steps_of r i ≡ Step.End
     → (k : ℕ) → i ≤ k → steps_of r k ≡ Step.End

@@ -19,7 +19,9 @@
 use Rattle.std.specs.Prelude.{◌≡◌, List, ◌⊎◌, ℕ, ◌+◌, ◌≤◌, ◌<◌}
 use Rattle.model.specs.Table.{row_of, source_of}
 use Rattle.model.specs.Header.{rows_at, row_bytes}
-use Rattle.door_step.specs.declared.{Step.Step, Stepped.Stepped}
+use Rattle.std.specs.Prelude.{Option}
+use Rattle.model.specs.declared.Entry.{Entry}
+use Rattle.door_step.specs.Steps.{StepAnswer}
 use Rattle.model_promises.specs.Terms.{Fillable, Unfillable}
 use Rattle.model_cited.specs.Terms.{source}
 
@@ -28,11 +30,11 @@ use Rattle.model_cited.specs.Terms.{source}
 module _ (s : List ℕ) (i : ℕ) where
   -- a step from place i: what a fill refuses gets that refusal, number and row, at every place; else row i and the
   -- place after it, or past the last row the end, which stays where it is
-  abbrev pub StepMeans : Stepped → Type 0
-  StepMeans (Stepped.Refused n j) = Unfillable s n j
-  StepMeans (Stepped.Row r c next) = Fillable s × (i < rows_at s)
+  abbrev pub StepMeans : StepAnswer → Type 0
+  StepMeans (StepAnswer.Refused n j) = Unfillable s n j
+  StepMeans (StepAnswer.Row r c next) = Fillable s × (i < rows_at s)
       × (r ≡ row_of (row_bytes s) i) × (c ≡ source (source_of (row_bytes s) i)) × (next ≡ i + 1)
-  StepMeans (Stepped.End next) = Fillable s × (rows_at s ≤ i) × (next ≡ i)
+  StepMeans (StepAnswer.End next) = Fillable s × (rows_at s ≤ i) × (next ≡ i)
 
   -- call i of a reader that was opened on s: rows 0 onward, each once, then the end; of what a fill refuses, the end
   abbrev pub NextMeans : Step → Type 0

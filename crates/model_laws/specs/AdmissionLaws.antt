@@ -10,8 +10,8 @@ use borrow.Author.Tests.{eqb-true, leb-true, ltb-false, eq-eqb, le-ltb}
 use Rattle.finite.specs.Logic.{◌and◌, ◌or◌, split, which, not_both, not_out, or_cases}
 use Rattle.finite.specs.Below.{least, least_is, least_off}
 use Rattle.model.specs.declared.Row.{Row}
-use Rattle.model.specs.declared.Admission.{Admission}
-use Rattle.model.specs.declared.Admission.TheVariants.{Admitted, Refused}
+use Rattle.model.specs.Refusal.{Admission}
+use Rattle.model.specs.Refusal.{Admitted, Refused}
 use Rattle.model.specs.Limits.{AGENTS, ROWS, DEPENDENCIES, LONGEST, BYTES}
 use Rattle.model.specs.Row.{RMW, CONTROL, AVAILABLE_HOST, BOTH, access, control, operation}
 use Rattle.model.specs.Scope.{DEVICE, agent_kind}

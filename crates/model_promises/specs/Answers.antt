@@ -15,7 +15,7 @@ use Rattle.model.specs.declared.DeriveAnswer.TheVariants as derive
 use Rattle.model.specs.declared.AcceptAnswer.{AcceptAnswer}
 use Rattle.model.specs.declared.AcceptAnswer.TheVariants as accept
 use Rattle.model.specs.declared.Report.{Report}
-use Rattle.model.specs.declared.ReportAnswer.TheVariants as report
+use Rattle.model.specs.Report as report
 use Rattle.model.specs.Table.{Table}
 use Rattle.model.specs.Check.{Verdict, check_answer, wiped, cycle_number, cycle_after, work_after}
 use Rattle.model.specs.Check as verdict
@@ -289,49 +289,49 @@ abbrev pub Sound : Verdict → Type 0
 Sound d = ((x : ℕ) × (y : ℕ) × (b : ℕ) × (d ≡ verdict.race x y b)) ⊎ (d ≡ verdict.race_free)
 
 -- what is report_on, by whether some pair conflicts
-counted_none : (t : Table) → conflicting t ≡ 0 → report_on t ≡ report.NoPairs
+counted_none : (t : Table) → conflicting t ≡ 0 → report_on t ≡ report.no_pairs
 unfolding report_on with_share share_of
 counted_none t e = rw (eq-eqb (conflicting t) 0 e) refl
 
-counted_some : (t : Table) → (conflicting t ≡ 0 → ⊥) → report_on t ≡ report.Report (report_of t (quotient (racing t) (conflicting t)))
+counted_some : (t : Table) → (conflicting t ≡ 0 → ⊥) → report_on t ≡ report.reported (report_of t (quotient (racing t) (conflicting t)))
 unfolding report_on with_share share_of
 counted_some t e = rw (ne_eqb (conflicting t) 0 e) refl
 
-none_counted : (t : Table) → report_on t ≡ report.NoPairs → conflicting t ≡ 0
+none_counted : (t : Table) → report_on t ≡ report.no_pairs → conflicting t ≡ 0
 none_counted t e = go (ℕ_discrete (conflicting t) 0)
   where
     go : Dec (conflicting t ≡ 0) → conflicting t ≡ 0
     go (yes h) = h
     go (no h) = absurd (let z : ◌≡◌ {A = ℕ} 4 3 = ap tag (sym (counted_some t h) ∙ e) in omega arith)
 
-some_counted : (t : Table) (r : Report) → report_on t ≡ report.Report r → (conflicting t ≡ 0 → ⊥) × (r ≡ report_of t (quotient (racing t) (conflicting t)))
+some_counted : (t : Table) (r : Report) → report_on t ≡ report.reported r → (conflicting t ≡ 0 → ⊥) × (r ≡ report_of t (quotient (racing t) (conflicting t)))
 some_counted t r e =
     let some : conflicting t ≡ 0 → ⊥ = λ h. absurd (let z : ◌≡◌ {A = ℕ} 3 4 = ap tag (sym (counted_none t h) ∙ e) in omega arith) in
     (some, ap (inside r) (sym e ∙ counted_some t some))
 
 -- no share exactly where the table is consistent and no pair conflicts
-pub reports_none : (d : Verdict) (t : Table) → (report_answer (check_answer d) t ≡ report.NoPairs) ↔ (Sound d × (conflicting t ≡ 0))
+pub reports_none : (d : Verdict) (t : Table) → (report_answer (check_answer d) t ≡ report.no_pairs) ↔ (Sound d × (conflicting t ≡ 0))
 unfolding report_answer check_answer
 reports_none d t = (forth d, λ e. back e.0 e.1)
   where
-    forth : (d : Verdict) → report_answer (check_answer d) t ≡ report.NoPairs → Sound d × (conflicting t ≡ 0)
+    forth : (d : Verdict) → report_answer (check_answer d) t ≡ report.no_pairs → Sound d × (conflicting t ≡ 0)
     forth (verdict.refused n i) e = absurd (let z : ◌≡◌ {A = ℕ} 0 3 = ap tag e in omega arith)
     forth (verdict.cyclic rows edges) e = absurd (let z : ◌≡◌ {A = ℕ} 1 3 = ap tag e in omega arith)
     forth (verdict.overwritten y z b) e = absurd (let z : ◌≡◌ {A = ℕ} 2 3 = ap tag e in omega arith)
     forth (verdict.race x y b) e = (inl (x, y, b, refl), none_counted t e)
     forth verdict.race_free e = (inr refl, none_counted t e)
 
-    back : Sound d → conflicting t ≡ 0 → report_answer (check_answer d) t ≡ report.NoPairs
+    back : Sound d → conflicting t ≡ 0 → report_answer (check_answer d) t ≡ report.no_pairs
     back (inl r) h = rw r.3 (counted_none t h)
     back (inr r) h = rw r (counted_none t h)
 
 -- a report exactly where it is consistent and some pair conflicts: the four counts, and the quotient of two of them beside them
 pub reports_counts : (d : Verdict) (t : Table) (r : Report)
-    → (report_answer (check_answer d) t ≡ report.Report r) ↔ (Sound d × (conflicting t ≡ 0 → ⊥) × (r ≡ report_of t (quotient (racing t) (conflicting t))))
+    → (report_answer (check_answer d) t ≡ report.reported r) ↔ (Sound d × (conflicting t ≡ 0 → ⊥) × (r ≡ report_of t (quotient (racing t) (conflicting t))))
 unfolding report_answer check_answer
 reports_counts d t r = (forth d, λ e. back e.0 e.1 e.2)
   where
-    forth : (d : Verdict) → report_answer (check_answer d) t ≡ report.Report r
+    forth : (d : Verdict) → report_answer (check_answer d) t ≡ report.reported r
         → Sound d × (conflicting t ≡ 0 → ⊥) × (r ≡ report_of t (quotient (racing t) (conflicting t)))
     forth (verdict.refused n i) e = absurd (let z : ◌≡◌ {A = ℕ} 0 4 = ap tag e in omega arith)
     forth (verdict.cyclic rows edges) e = absurd (let z : ◌≡◌ {A = ℕ} 1 4 = ap tag e in omega arith)
@@ -339,7 +339,7 @@ reports_counts d t r = (forth d, λ e. back e.0 e.1 e.2)
     forth (verdict.race x y b) e = let s = some_counted t r e in (inl (x, y, b, refl), s.0, s.1)
     forth verdict.race_free e = let s = some_counted t r e in (inr refl, s.0, s.1)
 
-    back : Sound d → (conflicting t ≡ 0 → ⊥) → r ≡ report_of t (quotient (racing t) (conflicting t)) → report_answer (check_answer d) t ≡ report.Report r
+    back : Sound d → (conflicting t ≡ 0 → ⊥) → r ≡ report_of t (quotient (racing t) (conflicting t)) → report_answer (check_answer d) t ≡ report.reported r
     back (inl q) h e = rw (q.3, e) (counted_some t h)
     back (inr q) h e = rw (q, e) (counted_some t h)
 

@@ -10,21 +10,21 @@ use Rattle.model.specs.declared.DeriveAnswer.TheVariants as derived
 use Rattle.model.specs.declared.AcceptAnswer.{AcceptAnswer}
 use Rattle.model.specs.declared.AcceptAnswer.TheVariants as accept
 use Rattle.model.specs.declared.Report.{Report}
-use Rattle.model.specs.declared.ReportAnswer.{ReportAnswer}
-use Rattle.model.specs.declared.ReportAnswer.TheVariants as told
+use Rattle.model.specs.Report.{Told}
+use Rattle.model.specs.Report as told
 use Rattle.model.specs.Check.{Verdict, check_answer}
 use Rattle.model.specs.Fill.{Outcome, fill_answer}
 use Rattle.model.specs.Reason.{Judged, Derived, accept_answer, derive_answer}
-use Rattle.model.specs.declared.Admission.{Admission}
-use Rattle.model.specs.declared.Admission.TheVariants as admit
+use Rattle.model.specs.Refusal.{Admission}
+use Rattle.model.specs.Refusal as admit
 use Rattle.door_pieces.specs.declared.RowPlace.{RowPlace}
 use Rattle.door_pieces.specs.declared.RowPlace.TheVariants as place
-use Rattle.door_write.specs.declared.WriteAnswer.{WriteAnswer}
-use Rattle.door_write.specs.declared.WriteAnswer.TheVariants as written
-use Rattle.door_write.specs.declared.ReadAnswer.{ReadAnswer}
-use Rattle.door_write.specs.declared.ReadAnswer.TheVariants as values
-use Rattle.door_step.specs.declared.Stepped.{Stepped}
-use Rattle.door_step.specs.declared.Stepped.TheVariants as step
+use Rattle.door_write.specs.Answer.{WriteAnswer}
+use Rattle.door_write.specs.Answer as written
+use Rattle.door_write.specs.Read.{ReadAnswer}
+use Rattle.door_write.specs.Read as values
+use Rattle.door_step.specs.Steps.{StepAnswer}
+use Rattle.door_step.specs.Steps as step
 use Rattle.model_promises.specs.Bounds.{SMALL, SmallVerdict, SmallOutcome, SmallReport, SmallDerived, SmallJudged}
 use Rattle.stramashly.specs.Packed.{packed, PROGRAM_ORDER, pack_check, pack_fill, pack_derive, pack_accept, pack_report, share_after}
 use Rattle.stramashly.specs.Packed.{pack_write, pack_read, pack_open, pack_step, pack_place}
@@ -117,29 +117,29 @@ accept_back Judged.not_accepted h = let p = reads_back 11 0 0 0 (omega arith) (o
 -- ---- a report's number, with the share that was handed out beside it
 
 -- the report of three counts and a share
-unfoldable pub report_by : ℕ → ℕ → ℕ → Float → ReportAnswer
-report_by a b c x = told.Report (record { conflicting = a + b + c; mutuals = a; ordered = b; racing = c; share = x })
+unfoldable pub report_by : ℕ → ℕ → ℕ → Float → Told
+report_by a b c x = told.reported (record { conflicting = a + b + c; mutuals = a; ordered = b; racing = c; share = x })
 
-unfoldable pub tell_by : ℕ → ℕ → ℕ → ℕ → Float → ReportAnswer
+unfoldable pub tell_by : ℕ → ℕ → ℕ → ℕ → Float → Told
 tell_by k a b c x = cond (eqb k 7) (report_by a b c x)
-    (cond (eqb k 18) told.NoPairs (cond (eqb k 2) (told.Overwritten a b c) (cond (eqb k 3) (told.Cycle a) (told.Refused a b))))
+    (cond (eqb k 18) told.no_pairs (cond (eqb k 2) (told.overwritten a b c) (cond (eqb k 3) (told.cyclic a) (told.refused a b))))
 
-abbrev pub read_report : ℕ → Float → ReportAnswer
+abbrev pub read_report : ℕ → Float → Told
 read_report r x = tell_by (CODE r) (A r) (B r) (C r) x
 
 made : (r : Report) (d : ℕ) → d ≡ r.conflicting
     → record { conflicting = d; mutuals = r.mutuals; ordered = r.ordered; racing = r.racing; share = r.share } ≡ r
 made r d e = rw e refl
 
-pub report_back : (a : ReportAnswer) (x : Float) → SmallReport a → read_report (pack_report a) (share_after a x) ≡ a
+pub report_back : (a : Told) (x : Float) → SmallReport a → read_report (pack_report a) (share_after a x) ≡ a
 unfolding tell_by report_by pack_report share_after
-report_back (told.Refused n i) x h = let p = reads_back 4 n i 0 h.0 h.1 (omega arith) in rw (p.0, p.1, p.2) refl
-report_back (told.Cycle k) x h = let p = reads_back 3 k 0 0 h (omega arith) (omega arith) in rw (p.0, p.1) refl
-report_back (told.Overwritten y z b) x h = let p = reads_back 2 y z b h.0 h.1 h.2 in rw (p.0, p.1, p.2, p.3) refl
-report_back told.NoPairs x h = let p = reads_back 18 0 0 0 (omega arith) (omega arith) (omega arith) in rw p.0 refl
-report_back (told.Report r) x h =
+report_back (told.refused n i) x h = let p = reads_back 4 n i 0 h.0 h.1 (omega arith) in rw (p.0, p.1, p.2) refl
+report_back (told.cyclic k) x h = let p = reads_back 3 k 0 0 h (omega arith) (omega arith) in rw (p.0, p.1) refl
+report_back (told.overwritten y z b) x h = let p = reads_back 2 y z b h.0 h.1 h.2 in rw (p.0, p.1, p.2, p.3) refl
+report_back told.no_pairs x h = let p = reads_back 18 0 0 0 (omega arith) (omega arith) (omega arith) in rw p.0 refl
+report_back (told.reported r) x h =
     let p = reads_back 7 r.mutuals r.ordered r.racing h.2 h.3 h.4 in
-    rw (p.0, p.1, p.2, p.3) (ap told.Report (made r (r.mutuals + r.ordered + r.racing) h.1))
+    rw (p.0, p.1, p.2, p.3) (ap told.reported (made r (r.mutuals + r.ordered + r.racing) h.1))
 
 -- ---- the number of an opened table
 
@@ -166,7 +166,7 @@ pub data RowSaid : Type 0 where
   end : ℕ → RowSaid
 
 -- what of a step's answer is in the number
-unfoldable pub said_of : Stepped → RowSaid
+unfoldable pub said_of : StepAnswer → RowSaid
 said_of (step.Refused n i) = RowSaid.refused n i
 said_of (step.Row r s next) = RowSaid.row next
 said_of (step.End next) = RowSaid.end next
@@ -177,12 +177,12 @@ row_by k a b = cond (eqb k 14) (RowSaid.row a) (cond (eqb k 15) (RowSaid.end a) 
 abbrev pub read_row : ℕ → RowSaid
 read_row r = row_by (CODE r) (A r) (B r)
 
-abbrev pub SmallStep : Stepped → Type 0
+abbrev pub SmallStep : StepAnswer → Type 0
 SmallStep (step.Refused n i) = (n < SMALL) × (i < SMALL)
 SmallStep (step.Row r s next) = next < SMALL
 SmallStep (step.End next) = next < SMALL
 
-pub row_back : (x : Stepped) → SmallStep x → read_row (pack_step x) ≡ said_of x
+pub row_back : (x : StepAnswer) → SmallStep x → read_row (pack_step x) ≡ said_of x
 unfolding row_by pack_step said_of
 row_back (step.Refused n i) h = let p = reads_back 4 n i 0 h.0 h.1 (omega arith) in rw (p.0, p.1, p.2) refl
 row_back (step.Row r s next) h = let p = reads_back 14 next 0 0 h (omega arith) (omega arith) in rw (p.0, p.1) refl

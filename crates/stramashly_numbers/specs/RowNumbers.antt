@@ -5,8 +5,8 @@ use Rattle.std.proofs.Common.{sym, ap, ◌∙◌, arith, eqb-true, leb-true, ltb
 use Prim.Native.Nat.{ℕ, ◌+◌, ◌-◌, ◌*◌, ◌≤◌, ◌<◌}
 use Rattle.std.proofs.Math.Decide.{dec_lt}
 use Rattle.finite.specs.Logic.{split}
-use Rattle.model.specs.declared.Admission.{Admission}
-use Rattle.model.specs.declared.Admission.TheVariants as admit
+use Rattle.model.specs.Refusal.{Admission}
+use Rattle.model.specs.Refusal as admit
 use Rattle.model.specs.Limits.{ROWS, AGENTS}
 use Rattle.model.specs.Table.{dependency_count}
 use Rattle.model.specs.Header.{HEADER, VERSION_HOSTS, ROW_BYTES, version_at, agents_at, rows_at, has_hosts, rows_begin, dependency_bytes}
@@ -17,14 +17,14 @@ use Rattle.door_pieces.specs.declared.RowPlace.TheVariants as place
 use Rattle.door_pieces.specs.Pieces.{rows_both, pieces_fault, early_fault, row_place}
 use Rattle.door_pieces.specs.PiecesLaws.{first_right, both_fit, early_pieces}
 use Rattle.door_write.specs.declared.Dependencies.{Dependencies}
-use Rattle.door_write.specs.declared.Entry.{Entry}
-use Rattle.door_write.specs.declared.WriteAnswer.TheVariants as written
+use Rattle.model.specs.declared.Entry.{Entry}
+use Rattle.door_write.specs.Answer as written
 use Rattle.door_write.specs.Encode.{with_hosts, places_size, dependencies_size, table_size, encode}
 use Rattle.door_write.specs.Answer.{version_known, counts_fit, numbers_fit, dependencies_fit, values_fault, room_answer, write_answer}
 use Rattle.door_write.specs.Parts.{parts_answer}
-use Rattle.door_write.specs.declared.ReadAnswer.TheVariants as values
+use Rattle.door_write.specs.Read as values
 use Rattle.door_write.specs.Read.{lent_fit, read_answer}
-use Rattle.door_step.specs.declared.Stepped.TheVariants as step
+use Rattle.door_step.specs.Steps as step
 use Rattle.door_step.specs.Steps.{stepped_at}
 use Rattle.door_step.specs.Promise.{from_refused, from_row_lem, from_end}
 use Rattle.model_promises.specs.Bounds.{SMALL, admission_small}

@@ -1,9 +1,9 @@
 use mathlib.Core.Path.{◌≡◌, sym, ap, ◌∙◌}
 use Prim.Native.Nat.{ℕ}
-use Rattle.model.specs.declared.Admission.{Admission}
-use Rattle.model.specs.declared.Admission.TheVariants.{Admitted, Refused}
+use Rattle.model.specs.Refusal.{Admission}
+use Rattle.model.specs.Refusal.{Admitted, Refused}
 use Rattle.door_step.specs.declared.Step.{Step}
-use Rattle.door_step.specs.declared.Stepped.TheVariants as answer
+use Rattle.door_step.specs.Steps as answer
 use Rattle.door_step.specs.Steps.{stepped}
 use Rattle.door_step.proofs.answer_of.Goals as goal
 

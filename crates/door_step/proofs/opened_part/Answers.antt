@@ -1,5 +1,5 @@
 use mathlib.Core.Path.{sym, ap}
-use Rattle.model.specs.declared.Admission.{Admission}
+use Rattle.model.specs.Refusal.{Admission}
 use Rattle.door_step.specs.Steps.{opened_part}
 use Rattle.door_step.proofs.opened_part.Goals as goal
 

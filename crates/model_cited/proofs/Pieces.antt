@@ -2,6 +2,8 @@
 -- crates/model_promises/specs/Main.antt: each proof names a theorem of a page beside this one. The notation, the words
 -- and the meanings are those of specs/Pieces.antt.
 use Rattle.std.specs.Prelude.{◌≡◌, Bool, List, [], ◌++◌, ◌⊎◌, ◌↔◌, ℕ, ◌+◌, ◌/◌, ◌<◌, length}
+use Rattle.std.specs.declared.option.Option.{Option}
+use Rattle.std.specs.declared.option.Option.TheVariants.{None, Some}
 use Rattle.model.specs.declared.Reason.{Reason}
 use Rattle.model.specs.Refusal.{Admission}
 use Rattle.model.specs.Report.{Told}
@@ -139,10 +141,10 @@ module _ (f : List ℕ) where
 module _ (f s : List ℕ) (n : ℕ) where
   -- where it begins: in the first piece, in the second, or nowhere, for a row that neither has and for a pair that is
   -- refused before 5
-  pub place_means : (w : RowPlace) → (row_place f s n ≡ w) ↔ PlaceMeans f s n w
-  place_means (RowPlace.First at) = beside.PiecesExactly.place_exactly f s n (RowPlace.First at)
-  place_means (RowPlace.Second at) = beside.PiecesExactly.place_exactly f s n (RowPlace.Second at)
-  place_means RowPlace.Neither = beside.PiecesExactly.place_exactly f s n RowPlace.Neither
+  pub place_means : (w : Option RowPlace) → (row_place f s n ≡ w) ↔ PlaceMeans f s n w
+  place_means (Some (RowPlace.First at)) = beside.PiecesExactly.place_exactly f s n (Some (RowPlace.First at))
+  place_means (Some (RowPlace.Second at)) = beside.PiecesExactly.place_exactly f s n (Some (RowPlace.Second at))
+  place_means None = beside.PiecesExactly.place_exactly f s n None
 
   -- what row_part shows begins at that place
   pub part_place : row_part f s n ≡ part_at f s (row_place f s n)

@@ -1,5 +1,7 @@
 -- How a packed number is read, and that it is read back as what was packed. Assumes nothing.
 use Rattle.std.specs.Prelude.{◌≡◌, refl, cond, ℕ, ◌+◌, ◌*◌, ◌/◌, ◌%◌, ◌<◌, length, eqb, Float}
+use Rattle.std.specs.declared.option.Option.{Option}
+use Rattle.std.specs.declared.option.Option.TheVariants.{None, Some}
 use Rattle.std.proofs.Common.{ap, arith, ne_eqb}
 use Rattle.model.specs.declared.CheckAnswer.{CheckAnswer}
 use Rattle.model.specs.declared.CheckAnswer.TheVariants as said
@@ -230,19 +232,19 @@ values_back (values.Read version agents rows n) h =
 
 -- ---- the number of a row's place
 
-unfoldable pub place_by : ℕ → ℕ → ℕ → RowPlace
-place_by k a b = cond (eqb k 16) (cond (eqb a 0) (place.First b) (place.Second b)) place.Neither
+unfoldable pub place_by : ℕ → ℕ → ℕ → Option RowPlace
+place_by k a b = cond (eqb k 16) (cond (eqb a 0) (Some (place.First b)) (Some (place.Second b))) None
 
-abbrev pub read_place : ℕ → RowPlace
+abbrev pub read_place : ℕ → Option RowPlace
 read_place r = place_by (CODE r) (A r) (B r)
 
-abbrev pub SmallPlace : RowPlace → Type 0
-SmallPlace (place.First at) = at < SMALL
-SmallPlace (place.Second at) = at < SMALL
-SmallPlace place.Neither = Unit
+abbrev pub SmallPlace : Option RowPlace → Type 0
+SmallPlace (Some (place.First at)) = at < SMALL
+SmallPlace (Some (place.Second at)) = at < SMALL
+SmallPlace None = Unit
 
-pub place_back : (x : RowPlace) → SmallPlace x → read_place (pack_place x) ≡ x
+pub place_back : (x : Option RowPlace) → SmallPlace x → read_place (pack_place x) ≡ x
 unfolding place_by pack_place
-place_back (place.First at) h = let p = reads_back 16 0 at 0 (omega arith) h (omega arith) in rw (p.0, p.1, p.2) refl
-place_back (place.Second at) h = let p = reads_back 16 1 at 0 (omega arith) h (omega arith) in rw (p.0, p.1, p.2) refl
-place_back place.Neither h = let p = reads_back 17 0 0 0 (omega arith) (omega arith) (omega arith) in rw p.0 refl
+place_back (Some (place.First at)) h = let p = reads_back 16 0 at 0 (omega arith) h (omega arith) in rw (p.0, p.1, p.2) refl
+place_back (Some (place.Second at)) h = let p = reads_back 16 1 at 0 (omega arith) h (omega arith) in rw (p.0, p.1, p.2) refl
+place_back None h = let p = reads_back 17 0 0 0 (omega arith) (omega arith) (omega arith) in rw p.0 refl

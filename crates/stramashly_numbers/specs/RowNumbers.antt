@@ -1,5 +1,7 @@
 -- The numbers of the functions about rows and bytes (open, row, row2, write, read), read back. Assumes nothing.
 use Rattle.std.specs.Prelude.{◌≡◌, Bool, true, false, cond, List, length, ltb, leb, eqb}
+use Rattle.std.specs.declared.option.Option.{Option}
+use Rattle.std.specs.declared.option.Option.TheVariants.{None, Some}
 use Rattle.std.proofs.Math.Path.{refl}
 use Rattle.std.proofs.Common.{sym, ap, ◌∙◌, arith, eqb-true, leb-true, ltb-true}
 use Prim.Native.Nat.{ℕ, ◌+◌, ◌-◌, ◌*◌, ◌≤◌, ◌<◌}
@@ -120,7 +122,7 @@ place_fits f s n = go (eqb (early_fault f s) 0) refl (ltb n (rows_at f)) refl (l
     fit e = early_pieces f s (early_fault f s) refl (eqb-true (early_fault f s) 0 e)
 
     go : (a : Bool) → eqb (early_fault f s) 0 ≡ a → (b : Bool) → ltb n (rows_at f) ≡ b → (c : Bool) → ltb n (rows_both f s) ≡ c
-        → SmallPlace (cond a (cond b (place.First (rows_begin f + ROW_BYTES * n)) (cond c (place.Second (ROW_BYTES * (n - rows_at f))) place.Neither)) place.Neither)
+        → SmallPlace (cond a (cond b (Some (place.First (rows_begin f + ROW_BYTES * n))) (cond c (Some (place.Second (ROW_BYTES * (n - rows_at f)))) None)) None)
     go true e true l c m =
         let h = begin_fits f (shape_agents f (first_right f s (fit e))) in
         let k = ltb-true n (rows_at f) l in

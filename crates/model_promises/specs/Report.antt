@@ -2,7 +2,7 @@
 -- whatever they hold, the counts and the share. Assumes nothing.
 use Rattle.std.proofs.Math.Path.{◌≡◌, refl, sym, ap}
 use Rattle.std.proofs.Common.{◌∙◌, inl, inr, arith, ltb-true, le-ltb, eqb-true, eq-eqb, ne_eqb}
-use Rattle.std.specs.Prelude.{Bool, cond, ◌⊎◌, ◌↔◌, ℕ, zero, suc, ◌+◌, ◌≤◌, ◌<◌, length, eqb}
+use Rattle.std.specs.Prelude.{Bool, cond, ◌⊎◌, ◌↔◌, ℕ, zero, suc, ◌+◌, ◌≤◌, ◌<◌, length, eqb, Float}
 use Rattle.std.proofs.Math.Bool.{true, false}
 use mathlib.Core.List.{List}
 use Rattle.std.proofs.Math.Dec.{ltb}
@@ -11,8 +11,8 @@ use Rattle.std.specs.Float.Ieee.{round}
 use Rattle.std.proofs.lemmas.Bool.{eqb-false}
 use Rattle.finite.specs.Logic.{which, split, and_true, not_both, not_so, bool_ext}
 use Rattle.finite.specs.Count.{count_pairs, pairs_cong}
-use Rattle.model.specs.declared.Share.{Share}
-use Rattle.model.specs.declared.Share.TheVariants as share
+use Rattle.std.specs.declared.option.Option.{Option}
+use Rattle.std.specs.declared.option.Option.TheVariants.{None, Some}
 use Rattle.model.specs.declared.Report.{Report}
 use Rattle.model.specs.Report.{Told}
 use Rattle.model.specs.Report as told
@@ -87,9 +87,9 @@ counted_tag : (t : Table) → 3 ≤ tag (report_on t)
 unfolding report_on with_share
 counted_tag t = go (share_of (racing t) (conflicting t))
   where
-    go : (h : Share) → 3 ≤ tag (with_share h t)
-    go share.NoPairs = omega arith
-    go (share.Of f) = omega arith
+    go : (h : Option Float) → 3 ≤ tag (with_share h t)
+    go None = omega arith
+    go (Some f) = omega arith
 
 -- ---- check's answer, and no report
 

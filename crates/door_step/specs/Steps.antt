@@ -51,8 +51,8 @@ abbrev pub rows_left : RowReader → ℕ
 rows_left r = rows_at r.table.now - r.at
 
 -- what `open` gives of a table: a reader of it at place 0 where a fill admits it, else the refusal
-abbrev pub Opens : List ℕ → Result RowReader Refusal → Type 0
-Opens s answer =
+abbrev pub OpenGives : List ℕ → Result RowReader Refusal → Type 0
+OpenGives s answer =
     MatchResult answer
     (λ r. (admission true s ≡ admit.Admitted (agents_at s) (rows_at s)) × (r.table.now ≡ opened_part (admission true s) s) × (r.at ≡ 0))
     (λ x. admission true s ≡ admit.Refused x.number x.row)

@@ -5,7 +5,7 @@
 ghost use Rattle.std.specs.Prelude.{◌≡◌, true};
 ghost use Rattle.std.specs.Iterator.{at_most};
 ghost use Rattle.model.specs.Refusal.{admission, admission_answer};
-ghost use Rattle.door_step.specs.Steps.{step_at, next_at, moved, rows_left, Opens, stepped_at, step_result};
+ghost use Rattle.door_step.specs.Steps.{step_at, next_at, moved, rows_left, OpenGives, stepped_at, step_result};
 
 use door_rows::bytes;
 use model::{Counts, Entry, Refusal};
@@ -56,10 +56,10 @@ pub fn opening(table: &[u8]) -> Result<Counts, Refusal>
     door_admit::admit(table, true)
 }
 
-// Opens a table that a fill admits, 11 aside; any other gets its refusal.
+// OpenGives a table that a fill admits, 11 aside; any other gets its refusal.
 // Ruled out: one that opens a table with a faulty row up to that row; one that refuses a blank.
 pub fn open(table: &[u8]) -> Result<RowReader<'_>, Refusal>
-    ensures { Opens table.now result }
+    ensures { OpenGives table.now result }
 {
     opening(table)?;
     Ok(RowReader { table, at: 0 })
@@ -82,7 +82,7 @@ impl Iterator for RowReader<'_> {
     }
 }
 
-// Opens a reader, puts it at a place, and steps: for a caller that holds the table and the place, and no reader.
+// OpenGives a reader, puts it at a place, and steps: for a caller that holds the table and the place, and no reader.
 // Ruled out: one that gives a row of a table that a fill refuses; one that leaves the end.
 pub fn step_from(table: &[u8], at: u16) -> Result<Stepped, Refusal>
     ensures { result ≡ step_result (stepped_at table.now at) }

@@ -8,7 +8,8 @@ use Rattle.model.specs.Header.{ROW_BYTES, agents_at, rows_at, row_bytes}
 use Rattle.door_write.specs.Encode.{row_list}
 use Rattle.door_write.specs.Promise.{row_bytes_again}
 use Rattle.door_step.specs.declared.RowReader.{RowReader}
-use Rattle.std.specs.Prelude.{Option}
+use Rattle.std.specs.declared.option.Option.{Option}
+use Rattle.std.specs.declared.option.Option.TheVariants.{None, Some}
 use Rattle.model.specs.declared.Entry.{Entry}
 use Rattle.door_step.specs.Steps.{StepAnswer}
 use Rattle.door_step.specs.Steps.{steps_of, stepped_at}
@@ -48,16 +49,16 @@ module _ (s : List ℕ) (i : ℕ) where
 -- ---- a call of a reader
 
 module _ (s : List ℕ) (i : ℕ) (r : RowReader) (o : Opens s r) where
-  abbrev MeansNext : Step → Type 0
-  MeansNext (Step.Row q c) =
-      Fillable s × (i < rows_at s) × (q ≡ row_of (row_bytes s) i) × (c ≡ source (source_of (row_bytes s) i))
-  MeansNext Step.End = (Fillable s × (rows_at s ≤ i)) ⊎ ((n : ℕ) × (j : ℕ) × Unfillable s n j)
+  abbrev MeansNext : Option Entry → Type 0
+  MeansNext (Some e) =
+      Fillable s × (i < rows_at s) × (e.row ≡ row_of (row_bytes s) i) × (e.source ≡ source (source_of (row_bytes s) i))
+  MeansNext None = (Fillable s × (rows_at s ≤ i)) ⊎ ((n : ℕ) × (j : ℕ) × Unfillable s n j)
 
   row_next : Fillable s → i < rows_at s
-      → steps_of r i ≡ Step.Row (row_of (row_bytes s) i) (source (source_of (row_bytes s) i))
+      → steps_of r i ≡ Some (record { row = row_of (row_bytes s) i; source = source (source_of (row_bytes s) i) })
   row_next e l = opened_rows s r o.0 o.1 (agents_at s) (rows_at s) e i l
 
-  end_next : MeansNext Step.End → steps_of r i ≡ Step.End
+  end_next : MeansNext None → steps_of r i ≡ None
   end_next (inl (e, l)) = opened_end s r o.0 o.1 (agents_at s) (rows_at s) e i l
   end_next (inr (n, j, e)) = refused_end s r o.0 o.1 n j e i
 
@@ -69,12 +70,12 @@ module _ (s : List ℕ) (i : ℕ) (r : RowReader) (o : Opens s r) where
       go (inl e) (yes l) = subst MeansNext (sym (row_next e l)) (e, l, refl, refl)
       go (inl e) (no l) = subst MeansNext (sym (end_next (inl (e, omega arith)))) (inl (e, omega arith))
 
-  pub next_exactly : (x : Step) → (steps_of r i ≡ x) ↔ MeansNext x
+  pub next_exactly : (x : Option Entry) → (steps_of r i ≡ x) ↔ MeansNext x
   next_exactly x = (λ e. subst MeansNext e said_next, back x)
     where
-      back : (x : Step) → MeansNext x → steps_of r i ≡ x
-      back (Step.Row q c) (e, l, p, n) = row_next e l ∙ rw (p, n) refl
-      back Step.End e = end_next e
+      back : (x : Option Entry) → MeansNext x → steps_of r i ≡ x
+      back (Some x) (e, l, p, n) = row_next e l ∙ rw (← p, ← n) refl
+      back None e = end_next e
 
 -- ---- what follows
 
@@ -96,10 +97,10 @@ end_stays s i next e k l =
     let h = m.1 in
     (exactly s k (StepAnswer.End k)).1 (m.0, omega arith, refl)
 
-pub next_end_stays : (s : List ℕ) (r : RowReader) → Opens s r → (i : ℕ) → steps_of r i ≡ Step.End
-    → (k : ℕ) → i ≤ k → steps_of r k ≡ Step.End
-next_end_stays s r o i e k l = go ((next_exactly s i r o Step.End).0 e)
+pub next_end_stays : (s : List ℕ) (r : RowReader) → Opens s r → (i : ℕ) → steps_of r i ≡ None
+    → (k : ℕ) → i ≤ k → steps_of r k ≡ None
+next_end_stays s r o i e k l = go ((next_exactly s i r o None).0 e)
   where
-    go : (Fillable s × (rows_at s ≤ i)) ⊎ ((n : ℕ) × (j : ℕ) × Unfillable s n j) → steps_of r k ≡ Step.End
-    go (inl (f, h)) = (next_exactly s k r o Step.End).1 (inl (f, omega arith))
-    go (inr u) = (next_exactly s k r o Step.End).1 (inr u)
+    go : (Fillable s × (rows_at s ≤ i)) ⊎ ((n : ℕ) × (j : ℕ) × Unfillable s n j) → steps_of r k ≡ None
+    go (inl (f, h)) = (next_exactly s k r o None).1 (inl (f, omega arith))
+    go (inr u) = (next_exactly s k r o None).1 (inr u)

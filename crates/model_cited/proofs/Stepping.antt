@@ -6,7 +6,8 @@ use Rattle.model.specs.declared.{Row.Row, Source.Source}
 use Rattle.model.specs.Header.{ROW_BYTES, row_bytes}
 use Rattle.door_write.specs.Encode.{row_list}
 use Rattle.door_step.specs.declared.RowReader.{RowReader}
-use Rattle.std.specs.Prelude.{Option}
+use Rattle.std.specs.declared.option.Option.{Option}
+use Rattle.std.specs.declared.option.Option.TheVariants.{None, Some}
 use Rattle.model.specs.declared.Entry.{Entry}
 use Rattle.door_step.specs.Steps.{StepAnswer}
 use Rattle.door_step.specs.Steps.{steps_of, stepped_at}
@@ -26,9 +27,9 @@ module _ (s : List ℕ) (i : ℕ) where
   step_means (StepAnswer.End next) = beside.StepExactly.exactly s i (StepAnswer.End next)
 
   -- call i of a reader that was opened on s: rows 0 onward, each once, then the end; of what a fill refuses, the end
-  pub next_means : (r : RowReader) → Opens s r → (x : Step) → (steps_of r i ≡ x) ↔ NextMeans s i x
-  next_means r o (Step.Row q c) = beside.StepExactly.next_exactly s i r o (Step.Row q c)
-  next_means r o Step.End = beside.StepExactly.next_exactly s i r o Step.End
+  pub next_means : (r : RowReader) → Opens s r → (x : Option Entry) → (steps_of r i ≡ x) ↔ NextMeans s i x
+  next_means r o (Some e) = beside.StepExactly.next_exactly s i r o (Some e)
+  next_means r o None = beside.StepExactly.next_exactly s i r o None
 
 -- ==== What follows
 
@@ -49,6 +50,6 @@ pub end_stays : (s : List ℕ) (i next : ℕ) → stepped_at s i ≡ StepAnswer.
 end_stays = beside.StepExactly.end_stays
 
 -- and of a reader: after its end there are no rows
-pub next_end_stays : (s : List ℕ) (r : RowReader) → Opens s r → (i : ℕ) → steps_of r i ≡ Step.End
-    → (k : ℕ) → i ≤ k → steps_of r k ≡ Step.End
+pub next_end_stays : (s : List ℕ) (r : RowReader) → Opens s r → (i : ℕ) → steps_of r i ≡ None
+    → (k : ℕ) → i ≤ k → steps_of r k ≡ None
 next_end_stays = beside.StepExactly.next_end_stays

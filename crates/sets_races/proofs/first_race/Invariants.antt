@@ -3,7 +3,7 @@ use Prim.Native.Nat.{◌-◌}
 use Rattle.finite.specs.Below.{least}
 use Rattle.model.specs.Limits.{ROWS, LONGEST}
 use Rattle.bits.specs.Bit.{bit_of}
-use Rattle.find_race.specs.declared.Found.TheVariants.{Nothing}
+use Rattle.std.specs.declared.option.Option.TheVariants.{None}
 use Rattle.run.specs.Layout.{table_in}
 use Rattle.sets_of_rows.specs.First.{next}
 use Rattle.sets_of_rows.specs.Walk.{Walk}
@@ -17,13 +17,13 @@ abbrev pub decreases-loop-k : goal.decreases-loop-k
 decreases-loop-k l = LONGEST - l.k
 
 abbrev pub invariant-loop-others : goal.invariant-loop-others
-invariant-loop-others l = Walk l.initial.others l.others × (least (next l.others) (races_in (table_in l.t l.n) l.n l.x) ≡ next l.others) × (l.answer ≡ Nothing)
+invariant-loop-others l = Walk l.initial.others l.others × (least (next l.others) (races_in (table_in l.t l.n) l.n l.x) ≡ next l.others) × (l.answer ≡ None)
 
 abbrev pub decreases-loop-others : goal.decreases-loop-others
 decreases-loop-others l = ROWS - next l.others
 
 abbrev pub invariant-pairs : goal.invariant-pairs
-invariant-pairs l = Walk l.initial.left l.left × (least (next l.left) (has_in (table_in l.t l.n) l.n) ≡ next l.left) × (l.answer ≡ Nothing)
+invariant-pairs l = Walk l.initial.left l.left × (least (next l.left) (has_in (table_in l.t l.n) l.n) ≡ next l.left) × (l.answer ≡ None)
 
 abbrev pub decreases-pairs : goal.decreases-pairs
 decreases-pairs l = ROWS - next l.left

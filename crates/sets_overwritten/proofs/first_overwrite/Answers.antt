@@ -29,25 +29,25 @@ bounds-src-y c =
 pub overflow_cast-source : goal.overflow_cast-source
 overflow_cast-source c = omega (arith, c.type_inv.src c.first-y.result)
 
-pub overwritten_by-o-requires : goal.overwritten_by-o-requires
+pub overwritten_by-requires : goal.overwritten_by-requires
 unfolding decode
-overwritten_by-o-requires c =
+overwritten_by-requires c =
     let m = member_in _ (rows_at c.rows-left.ensures (says_rows c.requires.1.given.opened.known.tested.accesses.reads)) (walk_in c.loop-left.invariant.0 c.first-y.ensures) in (c.if-source-n.true, record { low = m.0; is = m.1 }, c.requires.1)
 
-pub loop-left-smaller-in-Nothing-1 : goal.loop-left-smaller-in-Nothing-1
-loop-left-smaller-in-Nothing-1 c =
+pub loop-left-smaller-in_default : goal.loop-left-smaller-in_default
+loop-left-smaller-in_default c =
     walk_less c.first-y.ensures c.but_first-left.ensures
 
-pub loop-left-preserved-in-Nothing-1 : goal.loop-left-preserved-in-Nothing-1
-loop-left-preserved-in-Nothing-1 c =
-    search_turn _ _ (reader_off _ (source_in c.args.src.now) _ (rows_at c.rows-left.ensures (says_rows c.requires.1.given.opened.known.tested.accesses.reads))) c.loop-left.invariant c.first-y.ensures c.but_first-left.ensures (reader_none _ (source_in c.args.src.now) _ _ _ c.overwritten_by-o.ensures c.in-Nothing.is)
+pub loop-left-preserved-in_default : goal.loop-left-preserved-in_default
+loop-left-preserved-in_default c =
+    search_turn _ _ (reader_off _ (source_in c.args.src.now) _ (rows_at c.rows-left.ensures (says_rows c.requires.1.given.opened.known.tested.accesses.reads))) c.loop-left.invariant c.first-y.ensures c.but_first-left.ensures (reader_none _ (source_in c.args.src.now) _ _ _ c.overwritten_by.ensures c.in_default.is)
 
-pub returns-in_default : goal.returns-in_default
-returns-in_default c =
+pub returns-in-Some : goal.returns-in-Some
+returns-in-Some c =
     let m = member_in _ (rows_at c.rows-left.ensures (says_rows c.requires.1.given.opened.known.tested.accesses.reads)) (walk_in c.loop-left.invariant.0 c.first-y.ensures) in
-    let o = c.overwritten_by-o.ensures in
-    let hit = reader_hit _ (source_in c.args.src.now) _ _ _ m.0 m.1 o c.in_default.is in
-    reader_found _ (source_in c.args.src.now) _ c.requires.1.given.opened.fit.sized c.requires.1.given.opened.rows _ _ m.0 (search_found _ _ (reader_off _ (source_in c.args.src.now) _ (rows_at c.rows-left.ensures (says_rows c.requires.1.given.opened.known.tested.accesses.reads))) c.loop-left.invariant c.first-y.ensures hit) hit o
+    let o = c.overwritten_by.ensures in
+    let hit = reader_hit _ (source_in c.args.src.now) _ _ _ m.0 m.1 o c.in-Some.is in
+    sym c.in-Some.is ∙ reader_found _ (source_in c.args.src.now) _ c.requires.1.given.opened.fit.sized c.requires.1.given.opened.rows _ _ m.0 (search_found _ _ (reader_off _ (source_in c.args.src.now) _ (rows_at c.rows-left.ensures (says_rows c.requires.1.given.opened.known.tested.accesses.reads))) c.loop-left.invariant c.first-y.ensures hit) hit o
 
 pub loop-left-smaller : goal.loop-left-smaller
 loop-left-smaller c = walk_less c.first-y.ensures c.but_first-left.ensures

@@ -110,6 +110,13 @@ module _ (chains : Bool) (f s w c : List ℕ) (a : Result Counts Refusal) (e : a
     told_is =
         check_both_lem chains (length w) (length c) f s ∙ when_admitted_lem refused _ a _ e h ∙ sym (ap₂ verdict opened.table opened.sources)
 
+    -- the buffers, whatever is said
+    pub wiped_run : (x : List ℕ) → x ≡ wiped w → x ≡ work_after told w
+    wiped_run x e = e ∙ sym (verdict_wipes _ _ w) ∙ sym (ap (λ (v : Verdict). work_after v w) told_is)
+
+    pub cycle_run : (d : List ℕ) → d ≡ cycle_after verdict_run c → d ≡ cycle_after told c
+    cycle_run d e = e ∙ sym (ap (λ (v : Verdict). cycle_after v c) told_is)
+
     pub said_verdict : (r : CheckAnswer) (x d : List ℕ) → (Ok r ≡ check_answer verdict_run) × (x ≡ wiped w) × (d ≡ cycle_after verdict_run c)
         → Said told (Ok r) w x c d
     said_verdict r x d j = left_same check_answer work_after cycle_after told_is (j.0, j.1 ∙ sym (verdict_wipes _ _ w), j.2)

@@ -155,7 +155,7 @@ not_none e = let z : ◌≡◌ {A = ℕ} 0 1 = ap which_one e in absurd (omega a
     which_one None = 0
     which_one (Some x) = 1
 
-race_in : Race → Option Race → Race
+abbrev race_in : Race → Option Race → Race
 race_in d None = d
 race_in d (Some x) = x
 

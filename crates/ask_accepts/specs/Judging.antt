@@ -1,5 +1,5 @@
 -- What the reader's calls come to: direct cases by their number, a chain, and the answer from the bytes of a table. Assumes nothing.
-use Rattle.std.specs.Prelude.{◌≡◌, Bool, true, false, List, ℕ, ◌+◌, ◌-◌, ◌*◌, ◌/◌, ◌%◌, ◌<◌, length, get_or, ltb, leb, eqb}
+use Rattle.std.specs.Prelude.{◌≡◌, Bool, true, false, cond, List, ℕ, ◌+◌, ◌-◌, ◌*◌, ◌/◌, ◌%◌, ◌<◌, length, get_or, ltb, leb, eqb}
 use Rattle.std.proofs.Math.Path.{refl, sym}
 use Rattle.std.proofs.Common.{ap, ◌∙◌}
 use Rattle.std.proofs.Math.Bool.{not}
@@ -7,21 +7,20 @@ use native.Mathlib.Omega.{arith}
 use borrow.Author.Tests.{ltb-true, ne_eqb, not-false}
 use Rattle.finite.specs.Logic.{◌and◌, ◌or◌, split, and_false_left, and_false_right, not_out, and_on, and_on_right}
 use Rattle.finite.specs.Below.{any_below, any_in}
-use Rattle.model.specs.declared.Admission.{Admission}
-use Rattle.model.specs.declared.Admission.TheVariants.{Admitted, Refused}
+use Rattle.std.specs.declared.result.Result.{Result}
+use Rattle.std.specs.declared.result.Result.TheVariants.{Ok, Err}
+use Rattle.model.specs.declared.Counts.{Counts}
 use Rattle.model.specs.declared.Row.{Row}
 use Rattle.model.specs.declared.Reason.{Reason}
 use Rattle.model.specs.declared.Reason.TheVariants as reason
-use Rattle.model.specs.declared.AcceptAnswer.{AcceptAnswer}
-use Rattle.model.specs.declared.AcceptAnswer.TheVariants as accept
 use Rattle.model.specs.Limits.{WORK, STEPS, CASE, CLASS_SETS}
 use Rattle.model.specs.Table.{Mode, Table, row_of, depends_of, decode}
 use Rattle.model.specs.Moment.{AT, moment, moment_in, program_ordered, program_order}
 use Rattle.model.specs.Synchronizes.{synchronizes}
 use Rattle.model.specs.Happens.{by_system, CASES, direct}
-use Rattle.model.specs.Reason.{stands, step_holds, broken, chain_holds, accepts, two_moments, judged, accept_answer}
+use Rattle.model.specs.Reason.{Judged, stands, step_holds, broken, chain_holds, accepts, two_moments, judged, accept_answer}
 use Rattle.model.specs.declared.Refusal.{Refusal}
-use Rattle.model.specs.Refusal.{buffers_fit, refusal_of}
+use Rattle.model.specs.Refusal.{refusal, buffers_fit, admission_answer}
 use Rattle.door_pieces.specs.Pieces.{joined, admission_both, judge_both}
 use Rattle.door_pieces.specs.Entry.{door_both, when_refused, when_admitted_lem, table_false}
 use Rattle.run.specs.Layout.{table_in}
@@ -148,18 +147,18 @@ module _ (b : List ℕ) (p : List (List ℕ)) (mode : Mode) (n m k : ℕ) (r : R
   abbrev two : Bool
   two = x and y and not (eqb m k)
 
-  pub judged_absent : not two ≡ true → accept.Refused 12 0 ≡ accept_answer (judged (decode b p mode n) m k r steps)
+  pub judged_absent : not two ≡ true → Err (refusal 12 0) ≡ accept_answer (judged (decode b p mode n) m k r steps)
   unfolding judged two_moments accept_answer
   judged_absent f = rw (← ex, ← ey, not_out two f) refl
 
   module _ (f : not two ≡ false) (d : Bool) (e : d ≡ accepts (decode b p mode n) m k r steps) where
-    pub judged_accepted : d ≡ true → accept.Accepted ≡ accept_answer (judged (decode b p mode n) m k r steps)
+    pub judged_told : Ok d ≡ accept_answer (judged (decode b p mode n) m k r steps)
     unfolding judged two_moments accept_answer
-    judged_accepted g = rw (← ex, ← ey, not-false two f, ← e, g) refl
-
-    pub judged_other : d ≡ false → accept.NotAccepted ≡ accept_answer (judged (decode b p mode n) m k r steps)
-    unfolding judged two_moments accept_answer
-    judged_other g = rw (← ex, ← ey, not-false two f, ← e, g) refl
+    judged_told = rw (← ex, ← ey, not-false two f, ← e) (told d)
+      where
+        told : (d : Bool) → Ok d ≡ accept_answer (cond d Judged.accepted Judged.not_accepted)
+        told true = refl
+        told false = refl
 
 -- ---- laws: the entry point
 
@@ -168,15 +167,15 @@ no_buffers : (f s : List ℕ) → door_both 0 true f s WORK 0 ≡ admission_both
 unfolding door_both buffers_fit ◌and◌
 no_buffers f s = refl
 
-module _ (f s : List ℕ) (a : Admission) (e : a ≡ door_both 0 true f s WORK 0) (m k : ℕ) (r : Reason) (steps : List ℕ) where
-  pub both_refused : {c i : ℕ} (x : Refusal) → a ≡ Refused c i → x ≡ refusal_of a
-      → accept.Refused x.number x.row ≡ accept_answer (judge_both f s m k r steps)
+module _ (f s : List ℕ) (a : Result Counts Refusal) (e : a ≡ admission_answer (door_both 0 true f s WORK 0)) (m k : ℕ) (r : Reason) (steps : List ℕ) where
+  pub both_refused : {x : Refusal} → a ≡ Err x → Err x ≡ accept_answer (judge_both f s m k r steps)
   unfolding accept_answer
-  both_refused x h q = sym (ap accept_answer (judge_both_lem m k r steps f s ∙ when_refused not_judged _ a _ (e ∙ no_buffers f s) x h q))
+  both_refused h =
+      sym (ap accept_answer (judge_both_lem m k r steps f s ∙ when_refused not_judged _ a _ (e ∙ ap admission_answer (no_buffers f s)) h))
 
-  pub both_judged : {g n : ℕ} (h : a ≡ Admitted g n) (t : List ℕ) → Entered 0 true false f s WORK 0 t n
-      → (x : AcceptAnswer) → x ≡ accept_answer (judged (table_in t n) m k r steps) → x ≡ accept_answer (judge_both f s m k r steps)
+  pub both_judged : {counts : Counts} (h : a ≡ Ok counts) (t : List ℕ) → Entered 0 true false f s WORK 0 t counts.rows
+      → (x : Result Bool Refusal) → x ≡ accept_answer (judged (table_in t counts.rows) m k r steps) → x ≡ accept_answer (judge_both f s m k r steps)
   both_judged admitted t opened x judged_is =
       judged_is
       ∙ ap accept_answer (ap (λ (y : Table). judged y m k r steps) (opened.table ∙ table_false (joined f s)) ∙ sym (judge_both_lem m k r steps f s
-      ∙ when_admitted_lem not_judged _ a _ (e ∙ no_buffers f s) admitted))
+      ∙ when_admitted_lem not_judged _ a _ (e ∙ ap admission_answer (no_buffers f s)) admitted))

@@ -13,7 +13,7 @@ ghost use Rattle.door_pieces.specs.Pieces.{judge_both};
 ghost use Rattle.door_open.specs.Opened.{RunOf};
 ghost use Rattle.ask_accepts.specs.Judging.{leads_to};
 
-use model::{AcceptAnswer, Admission, Reason};
+use model::{Reason, Refusal};
 use run::Run;
 use run_rows::{cases, moments};
 
@@ -115,21 +115,19 @@ fn is_accepted(t: &Run, n: usize, e: Ends, why: Reason, steps: &[u16]) -> bool
     is_chain(t, n, s, e, steps)
 }
 
-// The answer about the n rows of a table that is admitted.
-fn judge_rows(t: &Run, n: usize, e: Ends, reason: Reason, steps: &[u16]) -> AcceptAnswer
+// Whether the derivation is accepted, of the n rows of a table that is admitted; refusal 12, where it is not of two of its moments.
+fn judge_rows(t: &Run, n: usize, e: Ends, reason: Reason, steps: &[u16]) -> Result<bool, Refusal>
     requires { RunOf true t.now n }
     ensures { result ≡ accept_answer (judged (table_in t.now n) e.first e.second reason steps.now) }
 {
     if !(is_there(t, n, e.first) & is_there(t, n, e.second) & !(e.first == e.second)) {
-        return AcceptAnswer::Refused { number: 12, row: 0 };
+        return Err(Refusal { number: 12, row: 0 });
     }
-    if is_accepted(t, n, e, reason, steps) {
-        return AcceptAnswer::Accepted;
-    }
-    AcceptAnswer::NotAccepted
+    Ok(is_accepted(t, n, e, reason, steps))
 }
 
-// Judges a derivation that moment m happens before moment k in a table in two pieces, of any bytes and any two numbers.
+// Judges a derivation that moment m happens before moment k in a table in two pieces, of any bytes and any two numbers: a refusal, or
+// whether it is accepted.
 // Ruled out: one that accepts a chain whose steps hold for different class sets; one that accepts an empty chain.
 pub fn accepts_both(
     first: &[u8],
@@ -138,33 +136,21 @@ pub fn accepts_both(
     k: u16,
     reason: Reason,
     steps: &[u16],
-) -> AcceptAnswer
+) -> Result<bool, Refusal>
     ensures { result ≡ accept_answer (judge_both first.now second.now m k reason steps.now) }
 {
     let mut t = [0u8; run::SIZE];
-    let a = door_open::enter(first, second, false, true, 0, model::WORK, 0, &mut t);
-    let Admission::Admitted {
-        agents: _,
-        rows: count,
-    } = a
-    else {
-        let x = model::refusal_of(a);
-        return AcceptAnswer::Refused {
-            number: x.number,
-            row: x.row,
-        };
-    };
-    let n = count as usize;
+    let counts = door_open::enter(first, second, false, true, 0, model::WORK, 0, &mut t)?;
     let e = Ends {
         first: m,
         second: k,
     };
-    judge_rows(&t, n, e, reason, steps)
+    judge_rows(&t, counts.rows as usize, e, reason, steps)
 }
 
 // Judges a derivation that the first moment happens before the second in a table in one piece.
 // Ruled out: one that reads from the second moment to the first; one that takes the table for its own second piece too.
-pub fn accepts(table: &[u8], first: u16, second: u16, reason: Reason, steps: &[u16]) -> AcceptAnswer
+pub fn accepts(table: &[u8], first: u16, second: u16, reason: Reason, steps: &[u16]) -> Result<bool, Refusal>
     ensures { result ≡ accept_answer (judge table.now first second reason steps.now) }
 {
     accepts_both(table, &table[..0], first, second, reason, steps)

@@ -1,8 +1,13 @@
 -- What the searches of a check found, as its answer, and what the calls of a check come to. Assumes nothing.
-use Rattle.std.specs.Prelude.{◌≡◌, refl, Bool, true, false, cond, List, ℕ, ◌*◌, ◌≤◌, ◌<◌, length, ltb}
+use Rattle.std.specs.Prelude.{◌≡◌, refl, Bool, true, false, cond, List, ℕ, ◌*◌, ◌≤◌, ◌<◌, length, ltb, MatchOption}
 use Rattle.std.proofs.Common.{sym, ap, ◌∙◌, arith, lt-ltb, le-ltb}
+use Rattle.std.specs.declared.option.Option.{Option}
+use Rattle.std.specs.declared.option.Option.TheVariants.{None, Some}
+use Rattle.std.specs.declared.result.Result.{Result}
+use Rattle.std.specs.declared.result.Result.TheVariants.{Ok, Err}
+use Rattle.model.specs.declared.{Refusal.Refusal, Race.Race, Overwritten.Overwritten}
 use Rattle.model.specs.declared.CheckAnswer.{CheckAnswer}
-use Rattle.model.specs.declared.CheckAnswer.TheVariants
+use Rattle.model.specs.declared.CheckAnswer.TheVariants as said
 use Rattle.model.specs.Table.{Table}
 use Rattle.model.specs.Race.{race_row, race_partner, race_byte}
 use Rattle.model.specs.Edge.{edge, over_reader, over_writer, over_byte, cycle_row, cycle_rows, cycle_edges}
@@ -16,41 +21,39 @@ use Rattle.work_area.specs.Regions.{MUTUAL, LOCATION_END, LOCATED_END, EDGE, EDG
 use Rattle.work_area.specs.State.{Placed, MadeOrdered, MadePlaced, placed_kept}
 use Rattle.find_cycle.specs.Shown.{held_start}
 use Rattle.find_race.specs.Bytes.{Ready}
-use Rattle.find_race.specs.declared.Found.{Found}
-use Rattle.find_race.specs.declared.Found.TheVariants as found
-use Rattle.find_race.specs.First.{race_of, found_race}
-use Rattle.find_axioms.specs.declared.overwritten.Overwrite.{Overwrite}
-use Rattle.find_axioms.specs.declared.overwritten.Overwrite.TheVariants as over
-use Rattle.find_axioms.specs.Overwritten.{overwrite_of, found_overwrite}
+use Rattle.find_race.specs.First.{found_at, race_of, found_race}
+use Rattle.find_axioms.specs.Overwritten.{over_at, overwrite_of, found_overwrite}
 use Rattle.ask_check.specs.Shown.{CycleFrom}
 
 -- ---- definitions
 
-unfoldable pub race_answer : Found → CheckAnswer
-race_answer (found.At x y b) = TheVariants.Race x y b
-race_answer found.Nothing = TheVariants.RaceFree
-
-unfoldable pub overwrite_answer : Overwrite → CheckAnswer
-overwrite_answer (over.At y z b) = TheVariants.Overwritten y z b
-overwrite_answer over.Nothing = TheVariants.RaceFree
+unfoldable pub race_answer : Option Race → CheckAnswer
+race_answer (Some r) = said.Race r
+race_answer None = said.RaceFree
 
 -- what was found to be overwritten, else the answer that comes next
-unfoldable pub overwrite_or : Overwrite → CheckAnswer → CheckAnswer
-overwrite_or (over.At y z b) next = TheVariants.Overwritten y z b
-overwrite_or over.Nothing next = next
+unfoldable pub overwrite_or : Option Overwritten → Result CheckAnswer Refusal → Result CheckAnswer Refusal
+overwrite_or (Some o) next = Ok (said.Overwritten o)
+overwrite_or None next = next
 
 -- ---- laws: the searches
 
-pub race_answered : (t : Table) (f : Found) → f ≡ found_race t → race_answer f ≡ check_answer (race_or race race_free t)
+pub race_mapped : (f : Option Race) (r : CheckAnswer) → MatchOption f (r ≡ said.RaceFree) (λ x. r ≡ said.Race x) → r ≡ race_answer f
+unfolding race_answer
+race_mapped (Some x) r e = e
+race_mapped None r e = e
+
+pub race_answered : (t : Table) (f : Option Race) → f ≡ found_race t → Ok (race_answer f) ≡ check_answer (race_or race race_free t)
 unfolding race_answer found_race race_of race_or check_answer
 race_answered t f e = rw e (go (ltb (race_row t) t.rows))
   where
-    go : (b : Bool) → race_answer (cond b (found.At (race_row t) (race_partner t (race_row t)) (race_byte t (race_row t) (race_partner t (race_row t)))) found.Nothing)
+    go : (b : Bool)
+        → Ok (race_answer (cond b (found_at (race_row t) (race_partner t (race_row t)) (race_byte t (race_row t) (race_partner t (race_row t)))) None))
         ≡ check_answer (cond b (race (race_row t) (race_partner t (race_row t)) (race_byte t (race_row t) (race_partner t (race_row t)))) race_free)
     go true = refl
     go false = refl
 
-pub overwrite_answered : (t : Table) (source : ℕ → ℕ) (next : Verdict) (o : Overwrite) → o ≡ found_overwrite t source
+pub overwrite_answered : (t : Table) (source : ℕ → ℕ) (next : Verdict) (o : Option Overwritten) → o ≡ found_overwrite t source
     → overwrite_or o (check_answer next) ≡ check_answer (overwritten_or next t source)
 unfolding overwrite_or found_overwrite overwrite_of overwritten_or check_answer
 overwrite_answered t source next o e = rw e (go (ltb y t.rows))
@@ -62,24 +65,25 @@ overwrite_answered t source next o e = rw e (go (ltb y t.rows))
     z = over_writer t source y
 
     go : (b : Bool)
-        → overwrite_or (cond b (over.At y z (over_byte t source y z)) over.Nothing) (check_answer next) ≡ check_answer
+        → overwrite_or (cond b (over_at y z (over_byte t source y z)) None) (check_answer next) ≡ check_answer
         (cond b (overwritten y z (over_byte t source y z)) next)
     go true = refl
     go false = refl
 
-pub settle_over : (t : Table) (source : ℕ → ℕ) (next : Verdict) (o : Overwrite) (r : CheckAnswer) {y z b : ℕ} → o ≡ found_overwrite t source
-    → o ≡ over.At y z b → r ≡ overwrite_answer o
-    → r ≡ check_answer (overwritten_or next t source)
-unfolding overwrite_answer overwrite_or
-settle_over t source next o r over_is found answered = answered ∙ rw found refl ∙ overwrite_answered t source next o over_is
+pub settle_over : (t : Table) (source : ℕ → ℕ) (next : Verdict) (o : Option Overwritten) {x : Overwritten} → o ≡ found_overwrite t source
+    → o ≡ Some x → Ok (said.Overwritten x) ≡ check_answer (overwritten_or next t source)
+unfolding overwrite_or
+settle_over t source next o {x} over_is found =
+    let a : overwrite_or o (check_answer next) ≡ Ok (said.Overwritten x) = rw found refl in
+    sym a ∙ overwrite_answered t source next o over_is
 
-pub settle_on : (t : Table) (source : ℕ → ℕ) (o : Overwrite) (f : Found) (r : CheckAnswer) → o ≡ found_overwrite t source → o ≡ over.Nothing
+pub settle_on : (t : Table) (source : ℕ → ℕ) (o : Option Overwritten) (f : Option Race) (r : CheckAnswer) → o ≡ found_overwrite t source → o ≡ None
     → f ≡ found_race t → r ≡ race_answer f
-    → r ≡ check_answer (overwritten_or (race_or race race_free t) t source)
+    → Ok r ≡ check_answer (overwritten_or (race_or race race_free t) t source)
 unfolding overwrite_or
 settle_on t source o f r over_is none race_is answered =
     let a : overwrite_or o (check_answer (race_or race race_free t)) ≡ check_answer (race_or race race_free t) = rw none refl in
-    answered ∙ race_answered t f race_is ∙ sym a ∙ overwrite_answered t source (race_or race race_free t) o over_is
+    ap (λ (x : CheckAnswer). Ok x) answered ∙ race_answered t f race_is ∙ sym a ∙ overwrite_answered t source (race_or race race_free t) o over_is
 
 -- ---- laws: the verdict
 
@@ -117,7 +121,7 @@ settled_keeps t source c = go (ltb y t.rows)
     go true = refl
     go false = race_keeps t c
 
-pub cyclic_answered : (v : Verdict) (l m : List ℕ) (size : ℕ) → v ≡ cyclic l m → size ≡ length l → TheVariants.Cycle size ≡ check_answer v
+pub cyclic_answered : (v : Verdict) (l m : List ℕ) (size : ℕ) → v ≡ cyclic l m → size ≡ length l → Ok (said.Cycle size) ≡ check_answer v
 unfolding check_answer
 cyclic_answered v l m size e s = rw (e, s) refl
 
@@ -164,7 +168,7 @@ module _ (t : Table) (source : ℕ → ℕ) (n x : ℕ) (w v u : List ℕ) (all 
 
   pub judge_cyclic : (size : ℕ) (z c d : List ℕ) → x < n → size ≡ length (cycle_rows t source)
       → d ≡ cycle_after (cyclic (cycle_rows t source) (cycle_edges t source)) c → Within LAYERS LAYERS_END u z
-      → (TheVariants.Cycle size ≡ check_answer (verdict t source)) × (d ≡ cycle_after (verdict t source) c) × Within EDGE LAYERS_END w z
+      → (Ok (said.Cycle size) ≡ check_answer (verdict t source)) × (d ≡ cycle_after (verdict t source) c) × Within EDGE LAYERS_END w z
   judge_cyclic size z c d l s e f =
       let q = verdict_cyclic t source n x all row l in (
         cyclic_answered (verdict t source) _ _ size q s,
@@ -172,8 +176,8 @@ module _ (t : Table) (source : ℕ → ℕ) (n x : ℕ) (w v u : List ℕ) (all 
         within_trans (edges_held made frame).1 (within_widen EDGE LAYERS_END (omega arith) (omega arith) f),
       )
 
-  pub judge_on : (r : CheckAnswer) (c : List ℕ) → n ≤ x → r ≡ check_answer (overwritten_or (race_or race race_free t) t source)
-      → (r ≡ check_answer (verdict t source)) × (c ≡ cycle_after (verdict t source) c) × Within EDGE LAYERS_END w u
+  pub judge_on : (r : CheckAnswer) (c : List ℕ) → n ≤ x → Ok r ≡ check_answer (overwritten_or (race_or race race_free t) t source)
+      → (Ok r ≡ check_answer (verdict t source)) × (c ≡ cycle_after (verdict t source) c) × Within EDGE LAYERS_END w u
   judge_on r c l e =
       let q = verdict_on t source n x all row l in
       (e ∙ ap check_answer (sym q), sym (ap (λ (y : Verdict). cycle_after y c) q ∙ settled_keeps t source c), (edges_held made frame).1)

@@ -2,6 +2,7 @@
 use Rattle.std.specs.Prelude.{◌≡◌, List, ℕ, ◌≤◌, length}
 use Rattle.std.proofs.Common.{arith}
 use Rattle.model.specs.Limits.{ROWS, WORK}
+use Rattle.std.specs.declared.result.Result.TheVariants.{Ok}
 use Rattle.model.specs.declared.CheckAnswer.{CheckAnswer}
 use Rattle.model.specs.Table.{Table, decode}
 use Rattle.model.specs.Check.{verdict, check_answer, cycle_after}
@@ -21,7 +22,7 @@ use Rattle.sets_engine.specs.Engine.{MadeJudging}
 
 -- the verdict on a table with such sources: the answer r, the work area w becomes u within its own part, the cycle buffer c becomes d
 pub record Judges (t : Table) (source : ℕ → ℕ) (r : CheckAnswer) (w u c d : List ℕ) : Type 0 where
-  pub answer : r ≡ check_answer (verdict t source)
+  pub answer : Ok r ≡ check_answer (verdict t source)
   pub buffer : d ≡ cycle_after (verdict t source) c
   pub frame : Within MUTUAL LOCATED_END w u
 
@@ -72,6 +73,6 @@ to_judge m room = record { given = record { opened = m.opened; room = let e = m.
 
 -- location order, then the verdict
 pub judges : {t : Table} {source : ℕ → ℕ} {r : CheckAnswer} {w v u c d : List ℕ} → Within MUTUAL LOCATED_END w v
-    → (r ≡ check_answer (verdict t source)) × (d ≡ cycle_after (verdict t source) c) × Within EDGE LAYERS_END v u → Judges t source r w u c d
+    → (Ok r ≡ check_answer (verdict t source)) × (d ≡ cycle_after (verdict t source) c) × Within EDGE LAYERS_END v u → Judges t source r w u c d
 judges f h =
     record { answer = h.0; buffer = h.1; frame = within_trans f (within_widen MUTUAL LOCATED_END (omega arith) (omega arith) h.2) }

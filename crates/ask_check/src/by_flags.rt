@@ -1,5 +1,5 @@
 // The verdict by the flags engine: one flag for each two moments, and plain loops.
-ghost use Rattle.std.specs.Prelude.{◌≡◌, ◌≤◌, length};
+ghost use Rattle.std.specs.Prelude.{◌≡◌, ◌≤◌, length, Ok};
 ghost use Rattle.model.specs.Limits.{WORK, CYCLE};
 ghost use Rattle.model.specs.Check.{verdict, race, race_free, race_or, overwritten_or, check_answer, cycle_after};
 ghost use Rattle.bits.specs.Within.{Within};
@@ -10,7 +10,6 @@ ghost use Rattle.sets_of_table.specs.Fit.{FitRun};
 ghost use Rattle.find_axioms.specs.Sources.{source_in};
 ghost use Rattle.ask_check.specs.Engine.{Judges, Buffers, Located};
 
-use crate::answers;
 use model::CheckAnswer;
 use run::Run;
 
@@ -27,19 +26,18 @@ pub fn locate(t: &Run, n: usize, w: &mut [u64])
 fn settle(t: &Run, n: usize, src: &[u16], w: &[u64]) -> CheckAnswer
     requires { (n ≤ length src.now) × Located (table_in t.now n) n w.now }
     ensures { let t = table_in t.entry.now n in
-        result ≡ check_answer (overwritten_or (race_or race race_free t) t (source_in src.now)) }
+        Ok result ≡ check_answer (overwritten_or (race_or race race_free t) t (source_in src.now)) }
 {
-    let o = find_axioms::overwritten::first_overwrite(t, n, src, w);
-    let find_axioms::overwritten::Overwrite::Nothing = o else {
-        return answers::overwrite_answer(o);
-    };
-    answers::race_answer(find_race::first_race(t, n, w))
+    if let Some(found) = find_axioms::overwritten::first_overwrite(t, n, src, w) {
+        return CheckAnswer::Overwritten(found);
+    }
+    find_race::first_race(t, n, w).map_or(CheckAnswer::RaceFree, CheckAnswer::Race)
 }
 
 // The verdict, from location order and the sources; a cycle's numbers in c.
 pub fn judge_located(t: &Run, n: usize, src: &[u16], w: &mut [u64], c: &mut [u16]) -> CheckAnswer
     requires { (CYCLE ≤ length c.old) × (n ≤ length src.now) × Located (table_in t.now n) n w.old }
-    ensures { (result ≡ check_answer (verdict (table_in t.now n) (source_in src.now)))
+    ensures { (Ok result ≡ check_answer (verdict (table_in t.now n) (source_in src.now)))
         × (c.new ≡ cycle_after (verdict (table_in t.now n) (source_in src.now)) c.old)
         × Within EDGE LAYERS_END w.old w.new }
 {

@@ -1,5 +1,5 @@
 // The verdict by the engine of sets of rows.
-ghost use Rattle.std.specs.Prelude.{◌≡◌, ◌≤◌, length};
+ghost use Rattle.std.specs.Prelude.{◌≡◌, ◌≤◌, length, Ok};
 ghost use Rattle.model.specs.Limits.{CYCLE};
 ghost use Rattle.model.specs.Check.{verdict, race, race_free, race_or, overwritten_or, check_answer, cycle_after};
 ghost use Rattle.bits.specs.Within.{Within};
@@ -11,7 +11,6 @@ ghost use Rattle.sets_edges.specs.Edges.{Sources};
 ghost use Rattle.find_axioms.specs.Sources.{source_in};
 ghost use Rattle.ask_check.specs.Engine.{Judges, Buffers};
 
-use crate::answers;
 use model::CheckAnswer;
 use run::Run;
 
@@ -19,13 +18,12 @@ use run::Run;
 fn settle(t: &Run, n: usize, src: &[u16], s: &[u64], w: &[u64]) -> CheckAnswer
     requires { (n ≤ length src.now) × ToJudge (table_in t.now n) n s.now w.now }
     ensures { let t = table_in t.entry.now n in
-        result ≡ check_answer (overwritten_or (race_or race race_free t) t (source_in src.now)) }
+        Ok result ≡ check_answer (overwritten_or (race_or race race_free t) t (source_in src.now)) }
 {
-    let o = sets_overwritten::first_overwrite(t, n, src, s, w);
-    let find_axioms::overwritten::Overwrite::Nothing = o else {
-        return answers::overwrite_answer(o);
-    };
-    answers::race_answer(sets_races::first_race(t, n, s, w))
+    if let Some(found) = sets_overwritten::first_overwrite(t, n, src, s, w) {
+        return CheckAnswer::Overwritten(found);
+    }
+    sets_races::first_race(t, n, s, w).map_or(CheckAnswer::RaceFree, CheckAnswer::Race)
 }
 
 // The verdict, from location order and the sources; a cycle's numbers in c.
@@ -39,7 +37,7 @@ pub fn judge_located(
     c: &mut [u16],
 ) -> CheckAnswer
     requires { (CYCLE ≤ length c.old) × Sources (table_in t.now n) n src.now × ToJudge (table_in t.now n) n s.now w.old }
-    ensures { (result ≡ check_answer (verdict (table_in t.now n) (source_in src.now)))
+    ensures { (Ok result ≡ check_answer (verdict (table_in t.now n) (source_in src.now)))
         × (c.new ≡ cycle_after (verdict (table_in t.now n) (source_in src.now)) c.old)
         × Within EDGE LAYERS_END w.old w.new }
 {

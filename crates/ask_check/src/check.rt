@@ -1,5 +1,5 @@
 // The check of a table in one or two pieces: any bytes, and buffers of any length.
-ghost use Rattle.std.specs.Prelude.{◌≡◌, false};
+ghost use Rattle.std.specs.Prelude.{◌≡◌, false, Ok};
 ghost use Rattle.model.specs.Limits.{CYCLE};
 ghost use Rattle.model.specs.Table.{source_of};
 ghost use Rattle.model.specs.Check.{verdict, check_answer, cycle_after, wiped};
@@ -12,7 +12,7 @@ ghost use Rattle.find_axioms.specs.Sources.{source_in};
 ghost use Rattle.ask_check.specs.Engine.{Judges, Buffers};
 ghost use Rattle.ask_check.specs.Whole.{Checked, CheckedBoth};
 
-use model::{Admission, CheckAnswer};
+use model::{CheckAnswer, Refusal};
 use run::Run;
 
 // The verdict on a run of n rows, by the engine by sets, or by the flags engine.
@@ -31,7 +31,7 @@ fn judge_by(sets: bool, t: &Run, n: usize, src: &[u16], w: &mut [u64], c: &mut [
 fn judge_run(t: &Run, n: usize, sets: bool, work: &mut [u64], cycle: &mut [u16]) -> CheckAnswer
     requires { Buffers CYCLE work.old cycle.old × RunOf false t.now n × Sourced (table_in t.now n) (source_of (rows_in t.now)) }
     ensures { let v = verdict (table_in t.now n) (source_of (rows_in t.now)) in
-        (result ≡ check_answer v) × (work.new ≡ wiped work.old) × (cycle.new ≡ cycle_after v cycle.old) }
+        (Ok result ≡ check_answer v) × (work.new ≡ wiped work.old) × (cycle.new ≡ cycle_after v cycle.old) }
 {
     let src = find_sources::sources::read_sources(t, n);
     let r = judge_by(sets, t, n, &src, work, cycle);
@@ -51,12 +51,12 @@ pub fn check_by(
     sets: bool,
     work: &mut [u64],
     cycle: &mut [u16],
-) -> CheckAnswer
+) -> Result<CheckAnswer, Refusal>
     ensures { CheckedBoth chains first.now second.now result
         work.old work.new cycle.old cycle.new }
 {
     let mut t = [0u8; run::SIZE];
-    let a = door_open::enter(
+    let counts = door_open::enter(
         first,
         second,
         chains,
@@ -65,19 +65,14 @@ pub fn check_by(
         work.len(),
         cycle.len(),
         &mut t,
-    );
-    let Admission::Admitted {
-        agents: _,
-        rows: count,
-    } = a
-    else {
-        let x = model::refusal_of(a);
-        return CheckAnswer::Refused {
-            number: x.number,
-            row: x.row,
-        };
-    };
-    judge_run(&t, count as usize, sets, work, cycle)
+    )?;
+    Ok(judge_run(
+        &t,
+        counts.rows as usize,
+        sets,
+        work,
+        cycle,
+    ))
 }
 
 // The same, by sets of rows.
@@ -88,7 +83,7 @@ pub fn check_both(
     chains: bool,
     work: &mut [u64],
     cycle: &mut [u16],
-) -> CheckAnswer
+) -> Result<CheckAnswer, Refusal>
     ensures { CheckedBoth chains first.now second.now result
         work.old work.new cycle.old cycle.new }
 {
@@ -97,7 +92,7 @@ pub fn check_both(
 
 // Judges one recorded run in one piece.
 // Ruled out: one that answers race-free to every table; one that takes the table for its own second piece too.
-pub fn check(table: &[u8], chains: bool, work: &mut [u64], cycle: &mut [u16]) -> CheckAnswer
+pub fn check(table: &[u8], chains: bool, work: &mut [u64], cycle: &mut [u16]) -> Result<CheckAnswer, Refusal>
     ensures { Checked chains table.now result work.old work.new cycle.old cycle.new }
 {
     check_both(table, &table[..0], chains, work, cycle)
@@ -110,7 +105,7 @@ pub fn check_by_flags(
     chains: bool,
     work: &mut [u64],
     cycle: &mut [u16],
-) -> CheckAnswer
+) -> Result<CheckAnswer, Refusal>
     ensures { Checked chains table.now result work.old work.new cycle.old cycle.new }
 {
     check_by(table, &table[..0], chains, false, work, cycle)

@@ -1,7 +1,6 @@
 // The verdict on a table.
 #![tactic(auto)]
 
-pub mod answers; // what was found, as an answer
 pub mod show; // the cycle that a check shows
 pub mod by_flags; // the flags engine
 pub mod by_sets; // the engine by sets of rows

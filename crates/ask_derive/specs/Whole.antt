@@ -11,10 +11,12 @@ use Rattle.finite.specs.Cycle.{length_trail, length_along, trail_cong}
 use Rattle.bits.specs.Bit.{zeros}
 use Rattle.bits.specs.Matrix.{rel}
 use Rattle.bits.specs.Within.{Within, within_refl, within_trans, within_widen, zeros_within}
-use Rattle.model.specs.declared.Admission.{Admission}
-use Rattle.model.specs.declared.Admission.TheVariants.{Admitted, Refused}
+use Rattle.std.specs.declared.result.Result.{Result}
+use Rattle.std.specs.declared.result.Result.TheVariants.{Ok, Err}
+use Rattle.model.specs.declared.{Refusal.Refusal, Counts.Counts}
 use Rattle.model.specs.declared.DeriveAnswer.{DeriveAnswer}
-use Rattle.model.specs.declared.DeriveAnswer.TheVariants
+use Rattle.model.specs.declared.DeriveAnswer.TheVariants as said
+use Rattle.model.specs.Refusal.{refusal, admission_answer}
 use Rattle.model.specs.Limits.{ROWS, WORK, STEPS, CLASS_SETS}
 use Rattle.model.specs.Table.{Mode, Table, row_of, decode}
 use Rattle.model.specs.Moment.{moment_in, moment, program_order}
@@ -23,8 +25,6 @@ use Rattle.model.specs.Check.{wiped}
 use Rattle.model.specs.Reason.{two_moments, chain_size, step_number, chain, has_chain_by, Derived, word, chained, not_before, chain_or, ours}
 use Rattle.model.specs.Reason.{derived_of, derive_answer, chain_after, work_after}
 use Rattle.work_area.specs.Regions.{MUTUAL, SYNC_END, HAPPENS, STEP, CHAINS, CHAINS_END, MOMENTS}
-use Rattle.model.specs.declared.Refusal.{Refusal}
-use Rattle.model.specs.Refusal.{refusal_of}
 use Rattle.door_pieces.specs.Pieces.{joined, derive_both}
 use Rattle.door_pieces.specs.Entry.{door_both, Left, left_same, zeros_wiped, when_refused, when_admitted_lem, table_false}
 use Rattle.run.specs.Layout.{table_in}
@@ -37,7 +37,7 @@ use Rattle.ask_derive.specs.Found.{size_is, size_fits, set_has}
 -- ---- definitions
 
 -- what comes back, by what is derived
-abbrev pub Told : Derived → DeriveAnswer → List ℕ → List ℕ → List ℕ → List ℕ → Type 0
+abbrev pub Told : Derived → Result DeriveAnswer Refusal → List ℕ → List ℕ → List ℕ → List ℕ → Type 0
 Told o r w u c d = Left derive_answer work_after chain_after o r w u c d
 
 -- ---- laws: the chain that is written
@@ -68,20 +68,20 @@ module _ {t : Table} {n s x z : ℕ} {w : List ℕ} (all : n ≡ t.rows) (h : La
 
 -- with the chain buffer before and after, and the frame of the work area
 abbrev Framed : Derived → DeriveAnswer → List ℕ → List ℕ → List ℕ → List ℕ → Type 0
-Framed o r c d w u = (r ≡ derive_answer o) × (d ≡ chain_after o c) × Within MUTUAL CHAINS_END w u
+Framed o r c d w u = (Ok r ≡ derive_answer o) × (d ≡ chain_after o c) × Within MUTUAL CHAINS_END w u
 
 -- synchronizes-with was made, then the class sets were tried
 both : {w v u : List ℕ} → Within MUTUAL SYNC_END w v → Within HAPPENS CHAINS_END v u → Within MUTUAL CHAINS_END w u
 both f g = within_trans (within_widen MUTUAL CHAINS_END (omega arith) (omega arith) f) (within_widen MUTUAL CHAINS_END (omega arith) (omega arith) g)
 
 module _ (t : Table) (m k : ℕ) where
-  pub told_word : (c w : List ℕ) → program_order t m k ≡ true → Framed (ours t m k) TheVariants.ProgramOrder c c w w
+  pub told_word : (c w : List ℕ) → program_order t m k ≡ true → Framed (ours t m k) said.ProgramOrder c c w w
   unfolding ours derive_answer chain_after
   told_word c w e = (rw e refl, rw e refl, within_refl _ _ w)
 
   module _ (e : program_order t m k ≡ false) (i : ℕ) (f : i ≡ least CLASS_SETS (has_chain_by t m k)) where
     pub told_none : {w v u : List ℕ} (c : List ℕ) → CLASS_SETS ≤ i → Within MUTUAL SYNC_END w v → Within HAPPENS CHAINS_END v u
-        → Framed (ours t m k) TheVariants.NotBefore c c w u
+        → Framed (ours t m k) said.NotBefore c c w u
     unfolding ours chain_or derive_answer chain_after
     told_none c l p q = (rw (e, ← f, le-ltb i CLASS_SETS l) refl, rw (e, ← f, le-ltb i CLASS_SETS l) refl, both p q)
 
@@ -91,9 +91,9 @@ module _ (t : Table) (m k : ℕ) where
 
     chain_told : (size : ℕ) (c d : List ℕ) → i < CLASS_SETS → size ≡ length (chain t (i + 1) m k)
         → d ≡ chain t (i + 1) m k ++ drop (length (chain t (i + 1) m k)) c
-        → (TheVariants.Chain (i + 1) size ≡ derive_answer (ours t m k)) × (d ≡ chain_after (ours t m k) c)
+        → (Ok (said.Chain (i + 1) size) ≡ derive_answer (ours t m k)) × (d ≡ chain_after (ours t m k) c)
     unfolding derive_answer chain_after
-    chain_told size c d l a g = rw (found l) (ap (λ (q : ℕ). TheVariants.Chain (i + 1) q) a, g)
+    chain_told size c d l a g = rw (found l) (ap (λ (q : ℕ). Ok (said.Chain (i + 1) q)) a, g)
 
 -- the class set was found, and then the layer of the first moment
 module _ {t : Table} {n m k i : ℕ} {u : List ℕ} (all : n ≡ t.rows) (asked : Asked n m k)
@@ -108,7 +108,7 @@ module _ {t : Table} {n m k i : ℕ} {u : List ℕ} (all : n ≡ t.rows) (asked 
 
   pub told_chain : {w v c d : List ℕ} → program_order t m k ≡ false → STEPS ≤ length c → Within MUTUAL SYNC_END w v → Within HAPPENS CHAINS_END v u
       → Written (along (step_number t (i + 1)) k (trail (3 * n) (rel u STEP MOMENTS) k (j + 1) m)) (j + 1) c d
-      → Framed (ours t m k) (TheVariants.Chain (i + 1) (j + 1)) c d w u
+      → Framed (ours t m k) (said.Chain (i + 1) (j + 1)) c d w u
   told_chain {c = c} {d} not_program room synced searched written =
       let a = fits.0 in
       let r = chain_told t m k not_program i set_is (j + 1) c d a_set (chain_length all layered asked.from j layer_is)
@@ -151,14 +151,14 @@ two_told t m k e = rw e refl
 
 module _ (t : Table) (m k : ℕ) where
   -- not two moments: nothing is touched
-  pub rows_12 : (w c : List ℕ) → two_moments t m k ≡ false → Told (derived_of t m k) (TheVariants.Refused 12 0) w w c c
+  pub rows_12 : (w c : List ℕ) → two_moments t m k ≡ false → Told (derived_of t m k) (Err (refusal 12 0)) w w c c
   unfolding derived_of derive_answer work_after chain_after
   rows_12 w c e = (rw e refl, rw e refl, rw e refl)
 
   -- derived, wiped
   pub rows_derived : (r : DeriveAnswer) (w v u c d : List ℕ) → WORK ≤ length w → two_moments t m k ≡ true
-      → (r ≡ derive_answer (ours t m k)) × (d ≡ chain_after (ours t m k) c) × Within MUTUAL CHAINS_END w v
-      → u ≡ zeros v 0 WORK → Told (derived_of t m k) r w u c d
+      → (Ok r ≡ derive_answer (ours t m k)) × (d ≡ chain_after (ours t m k) c) × Within MUTUAL CHAINS_END w v
+      → u ≡ zeros v 0 WORK → Told (derived_of t m k) (Ok r) w u c d
   rows_derived r w v u c d room two derived cleared =
       left_same derive_answer work_after chain_after (two_told t m k two) (
         derived.0,
@@ -169,17 +169,18 @@ module _ (t : Table) (m k : ℕ) where
 
 -- ---- laws: the entry point
 
-module _ (f s : List ℕ) (m k : ℕ) (w c : List ℕ) (a : Admission) (e : a ≡ door_both STEPS true f s (length w) (length c)) where
+module _ (f s : List ℕ) (m k : ℕ) (w c : List ℕ) (a : Result Counts Refusal)
+    (e : a ≡ admission_answer (door_both STEPS true f s (length w) (length c))) where
   abbrev told : Derived
   told = derive_both f s m k (length w) (length c)
 
-  pub told_refused : {n i : ℕ} (x : Refusal) → a ≡ Refused n i → x ≡ refusal_of a → Told told (TheVariants.Refused x.number x.row) w w c c
+  pub told_refused : {x : Refusal} → a ≡ Err x → Told told (Err x) w w c c
   unfolding derive_answer work_after chain_after
-  told_refused x h q =
-      left_same derive_answer work_after chain_after (derive_both_lem m k (length w) (length c) f s ∙ when_refused not_derived _ a _ e x h q) (refl, refl, refl)
+  told_refused h =
+      left_same derive_answer work_after chain_after (derive_both_lem m k (length w) (length c) f s ∙ when_refused not_derived _ a _ e h) (refl, refl, refl)
 
-  pub told_run : {g n : ℕ} (h : a ≡ Admitted g n) (t : List ℕ) → Entered STEPS true false f s (length w) (length c) t n
-      → (r : DeriveAnswer) (u d : List ℕ) → Told (derived_of (table_in t n) m k) r w u c d → Told told r w u c d
+  pub told_run : {counts : Counts} (h : a ≡ Ok counts) (t : List ℕ) → Entered STEPS true false f s (length w) (length c) t counts.rows
+      → (r : Result DeriveAnswer Refusal) (u d : List ℕ) → Told (derived_of (table_in t counts.rows) m k) r w u c d → Told told r w u c d
   told_run admitted t opened r u d derived =
       left_same derive_answer work_after chain_after
       (derive_both_lem m k (length w) (length c) f s ∙ when_admitted_lem not_derived _ a _ e admitted

@@ -1,7 +1,7 @@
 // Reasons: a derivation that one moment of a table, in one or two pieces, happens before another, for a reader to accept, or that it does not.
 #![tactic(auto)]
 
-ghost use Rattle.std.specs.Prelude.{◌≡◌, true, ◌≤◌, length};
+ghost use Rattle.std.specs.Prelude.{◌≡◌, true, ◌≤◌, length, Ok};
 ghost use Rattle.bits.specs.Within.{Within};
 ghost use Rattle.model.specs.Limits.{WORK, STEPS};
 ghost use Rattle.run.specs.Layout.{table_in};
@@ -11,7 +11,7 @@ ghost use Rattle.door_pieces.specs.Pieces.{derive_both};
 ghost use Rattle.door_open.specs.Opened.{RunOf};
 ghost use Rattle.ask_derive.specs.Layers.{Asked};
 
-use model::{Admission, DeriveAnswer};
+use model::{DeriveAnswer, Refusal};
 use run::Run;
 use run_rows::moments;
 
@@ -39,7 +39,7 @@ fn two_moments(t: &Run, n: usize, first: u16, second: u16) -> bool
 // The word, or else a chain for the lowest class set that has one, its steps in c.
 fn derive_moments(t: &Run, n: usize, e: Ends, w: &mut [u64], c: &mut [u16]) -> DeriveAnswer
     requires { (WORK ≤ length w.old) × (STEPS ≤ length c.old) × Asked n e.first e.second }
-    ensures { (result ≡ derive_answer (ours (table_in t.now n) e.first e.second))
+    ensures { (Ok result ≡ derive_answer (ours (table_in t.now n) e.first e.second))
         × (c.new ≡ chain_after (ours (table_in t.now n) e.first e.second) c.old)
         × Within MUTUAL CHAINS_END w.old w.new }
 {
@@ -62,18 +62,18 @@ fn derive_moments(t: &Run, n: usize, e: Ends, w: &mut [u64], c: &mut [u16]) -> D
 }
 
 // The derivation in the n rows of a table that is admitted; unless it is refusal 12, the work area's words end as zeros.
-fn derive_rows(t: &Run, n: usize, e: Ends, work: &mut [u64], chain: &mut [u16]) -> DeriveAnswer
+fn derive_rows(t: &Run, n: usize, e: Ends, work: &mut [u64], chain: &mut [u16]) -> Result<DeriveAnswer, Refusal>
     requires { (WORK ≤ length work.old) × (STEPS ≤ length chain.old) × RunOf true t.now n }
     ensures { (result ≡ derive_answer (derived_of (table_in t.now n) e.first e.second))
         × (work.new ≡ work_after (derived_of (table_in t.now n) e.first e.second) work.old)
         × (chain.new ≡ chain_after (derived_of (table_in t.now n) e.first e.second) chain.old) }
 {
     if !two_moments(t, n, e.first, e.second) {
-        return DeriveAnswer::Refused { number: 12, row: 0 };
+        return Err(Refusal { number: 12, row: 0 });
     }
     let r = derive_moments(t, n, e, work, chain);
     bits::clear(work, 0, model::WORK);
-    r
+    Ok(r)
 }
 
 // Derives that moment m happens before moment k in a table in two pieces, whatever bytes they have and whatever the numbers are: a refusal,
@@ -86,14 +86,14 @@ pub fn derive_both(
     k: u16,
     work: &mut [u64],
     chain: &mut [u16],
-) -> DeriveAnswer
+) -> Result<DeriveAnswer, Refusal>
     ensures { let answer = derive_both first.now second.now m k (length work.old) (length chain.old) in
         (result ≡ derive_answer answer)
         × (work.new ≡ work_after answer work.old)
         × (chain.new ≡ chain_after answer chain.old) }
 {
     let mut t = [0u8; run::SIZE];
-    let a = door_open::enter(
+    let counts = door_open::enter(
         first,
         second,
         false,
@@ -102,24 +102,12 @@ pub fn derive_both(
         work.len(),
         chain.len(),
         &mut t,
-    );
-    let Admission::Admitted {
-        agents: _,
-        rows: count,
-    } = a
-    else {
-        let x = model::refusal_of(a);
-        return DeriveAnswer::Refused {
-            number: x.number,
-            row: x.row,
-        };
-    };
-    let n = count as usize;
+    )?;
     let e = Ends {
         first: m,
         second: k,
     };
-    derive_rows(&t, n, e, work, chain)
+    derive_rows(&t, counts.rows as usize, e, work, chain)
 }
 
 // Derives that the first moment happens before the second in a table in one piece.
@@ -130,7 +118,7 @@ pub fn derive(
     second: u16,
     work: &mut [u64],
     chain: &mut [u16],
-) -> DeriveAnswer
+) -> Result<DeriveAnswer, Refusal>
     ensures { let answer = derive table.now first second (length work.old) (length chain.old) in
         (result ≡ derive_answer answer)
         × (work.new ≡ work_after answer work.old)

@@ -5,10 +5,11 @@ use Rattle.std.proofs.Common.{sym, ap, ap₂, ◌∙◌}
 use Rattle.finite.specs.Logic.{◌and◌}
 use Rattle.finite.specs.Lists.{tabulate}
 use Rattle.bits.specs.Bit.{zeros}
-use Rattle.model.specs.declared.Admission.{Admission}
-use Rattle.model.specs.declared.Admission.TheVariants.{Admitted, Refused}
+use Rattle.std.specs.declared.result.Result.{Result}
+use Rattle.std.specs.declared.result.Result.TheVariants.{Ok, Err}
+use Rattle.model.specs.declared.{Refusal.Refusal, Counts.Counts}
 use Rattle.model.specs.declared.FillAnswer.{FillAnswer}
-use Rattle.model.specs.declared.FillAnswer.TheVariants
+use Rattle.model.specs.Refusal.{admission_answer}
 use Rattle.model.specs.Limits.{WORK, SOURCES}
 use Rattle.model.specs.Table.{Mode, Table, source_of, decode}
 use Rattle.model.specs.Race.{race_row, race_partner, race_byte}
@@ -19,8 +20,6 @@ use Rattle.model_laws.specs.SourceLaws.{filled_same}
 use Rattle.find_axioms.specs.Sources.{source_in}
 use Rattle.find_sources.specs.Sources.{Listed}
 use Rattle.ask_check.specs.Whole.{wiped_after}
-use Rattle.model.specs.declared.Refusal.{Refusal}
-use Rattle.model.specs.Refusal.{refusal_of}
 use Rattle.door_pieces.specs.Pieces.{fill_both}
 use Rattle.door_pieces.specs.Entry.{door_both, Left, left_same, when_refused, when_admitted_lem}
 use Rattle.run.specs.Layout.{rows_in, table_in}
@@ -41,7 +40,7 @@ outcome_same t a b same = ap (λ (o : Outcome). race_or race o t) (filled_same t
 -- filled, wiped
 pub rows_filled : (b : List ℕ) (p : List (List ℕ)) (mode : Mode) (n : ℕ) {src w u z c d : List ℕ} {r : FillAnswer} → Listed (source_of b) n src
     → WORK ≤ length w → Fills (decode b p mode n) (source_in src) r w u c d → z ≡ zeros u 0 WORK
-    → (r ≡ fill_answer (outcome (decode b p mode n) (source_of b))) × (z ≡ wiped w) × (d ≡ sources_after (outcome (decode b p mode n) (source_of b)) c)
+    → (Ok r ≡ fill_answer (outcome (decode b p mode n) (source_of b))) × (z ≡ wiped w) × (d ≡ sources_after (outcome (decode b p mode n) (source_of b)) c)
 unfolding decode
 rows_filled b p mode n {src} {w} {u} {z} {c} listed room told cleared =
     let o = outcome_same (decode b p mode n) (source_in src) (source_of b) (λ i m. listed.each i m) in
@@ -70,34 +69,34 @@ outcome_wiped t source w = go (ltb (race_row t) t.rows)
 -- ---- laws: the entry point
 
 -- what comes back, by the outcome
-abbrev pub Filled : Outcome → FillAnswer → List ℕ → List ℕ → List ℕ → List ℕ → Type 0
+abbrev pub Filled : Outcome → Result FillAnswer Refusal → List ℕ → List ℕ → List ℕ → List ℕ → Type 0
 Filled o r w u c d = Left fill_answer work_after sources_after o r w u c d
 
 -- the fill of the table s: the answer r; the work area w becomes u, the source buffer c becomes d
-abbrev pub FilledBy : Bool → List ℕ → FillAnswer → List ℕ → List ℕ → List ℕ → List ℕ → Type 0
+abbrev pub FilledBy : Bool → List ℕ → Result FillAnswer Refusal → List ℕ → List ℕ → List ℕ → List ℕ → Type 0
 FilledBy chains s r w u c d = Filled (fill chains s (length w) (length c)) r w u c d
 
 -- the same of a table in two pieces, f and s
-abbrev pub FilledBoth : Bool → List ℕ → List ℕ → FillAnswer → List ℕ → List ℕ → List ℕ → List ℕ → Type 0
+abbrev pub FilledBoth : Bool → List ℕ → List ℕ → Result FillAnswer Refusal → List ℕ → List ℕ → List ℕ → List ℕ → Type 0
 FilledBoth chains f s r w u c d = Filled (fill_both chains f s (length w) (length c)) r w u c d
 
-module _ (chains : Bool) (f s w c : List ℕ) (a : Admission) (e : a ≡ door_both SOURCES true f s (length w) (length c)) where
+module _ (chains : Bool) (f s w c : List ℕ) (a : Result Counts Refusal) (e : a ≡ admission_answer (door_both SOURCES true f s (length w) (length c))) where
   abbrev told : Outcome
   told = fill_both chains f s (length w) (length c)
 
-  pub filled_refused : {n i : ℕ} (x : Refusal) → a ≡ Refused n i → x ≡ refusal_of a → Filled told (TheVariants.Refused x.number x.row) w w c c
+  pub filled_refused : {x : Refusal} → a ≡ Err x → Filled told (Err x) w w c c
   unfolding fill_answer work_after sources_after
-  filled_refused x h q =
-      left_same fill_answer work_after sources_after (fill_both_lem chains (length w) (length c) f s ∙ when_refused refused _ a _ e x h q) (refl, refl, refl)
+  filled_refused h =
+      left_same fill_answer work_after sources_after (fill_both_lem chains (length w) (length c) f s ∙ when_refused refused _ a _ e h) (refl, refl, refl)
 
-  module _ {g n : ℕ} (h : a ≡ Admitted g n) (t : List ℕ) (opened : Entered SOURCES true chains f s (length w) (length c) t n) where
+  module _ {k : Counts} (h : a ≡ Ok k) (t : List ℕ) (opened : Entered SOURCES true chains f s (length w) (length c) t k.rows) where
     abbrev pub outcome_run : Outcome
-    outcome_run = outcome (table_in t n) (source_of (rows_in t))
+    outcome_run = outcome (table_in t k.rows) (source_of (rows_in t))
 
     told_is : told ≡ outcome_run
     told_is =
         fill_both_lem chains (length w) (length c) f s ∙ when_admitted_lem refused _ a _ e h ∙ sym (ap₂ outcome opened.table opened.sources)
 
-    pub filled_outcome : (r : FillAnswer) (u d : List ℕ) → (r ≡ fill_answer outcome_run) × (u ≡ wiped w) × (d ≡ sources_after outcome_run c)
-        → Filled told r w u c d
+    pub filled_outcome : (r : FillAnswer) (u d : List ℕ) → (Ok r ≡ fill_answer outcome_run) × (u ≡ wiped w) × (d ≡ sources_after outcome_run c)
+        → Filled told (Ok r) w u c d
     filled_outcome r u d j = left_same fill_answer work_after sources_after told_is (j.0, j.1 ∙ sym (outcome_wiped _ _ w), j.2)

@@ -1,5 +1,5 @@
 // A fill by the flags engine: stages and searches, one after the other.
-ghost use Rattle.std.specs.Prelude.{◌≡◌, ◌≤◌, length};
+ghost use Rattle.std.specs.Prelude.{◌≡◌, ◌≤◌, length, Ok};
 ghost use Rattle.finite.specs.Logic.{◌and◌};
 ghost use Rattle.model.specs.Limits.{SOURCES};
 ghost use Rattle.run.specs.Layout.{table_in};
@@ -49,7 +49,7 @@ fn is_filled(t: &Run, n: usize, src: &[u16], w: &mut [u64]) -> bool
 fn choose_sources(t: &Run, n: usize, src: &[u16], w: &mut [u64], out: &mut [u16]) -> FillAnswer
     requires { (SOURCES ≤ length out.old) × (n ≤ length src.now) × Ready (table_in t.now n) n w.old }
     ensures { let t = table_in t.entry.now n in
-        (result ≡ fill_answer (filled_or none t (chosen t (source_in src.now))))
+        (Ok result ≡ fill_answer (filled_or none t (chosen t (source_in src.now))))
         × (out.new ≡ sources_after (filled_or none t (chosen t (source_in src.now))) out.old)
         × Within EDGE LAYERS_END w.old w.new }
 {
@@ -66,14 +66,13 @@ fn choose_sources(t: &Run, n: usize, src: &[u16], w: &mut [u64], out: &mut [u16]
 // Ruled out: one that fills a table that has a race; one that writes to out where the answer is no fill.
 pub fn settle(t: &Run, n: usize, src: &[u16], w: &mut [u64], out: &mut [u16]) -> FillAnswer
     requires { (SOURCES ≤ length out.old) × (n ≤ length src.now) × Located (table_in t.now n) n w.old }
-    ensures { (result ≡ fill_answer (outcome (table_in t.now n) (source_in src.now)))
+    ensures { (Ok result ≡ fill_answer (outcome (table_in t.now n) (source_in src.now)))
         × (out.new ≡ sources_after (outcome (table_in t.now n) (source_in src.now)) out.old)
         × Within EDGE LAYERS_END w.old w.new }
 {
-    let f = find_race::first_race(t, n, w);
-    let find_race::Found::Nothing = f else {
-        return parts::race_answer(f);
-    };
+    if let Some(race) = find_race::first_race(t, n, w) {
+        return FillAnswer::Race(race);
+    }
     choose_sources(t, n, src, w, out)
 }
 

@@ -1,5 +1,5 @@
 // A fill by the engine of sets of rows.
-ghost use Rattle.std.specs.Prelude.{◌≡◌, ◌≤◌, length};
+ghost use Rattle.std.specs.Prelude.{◌≡◌, ◌≤◌, length, Ok};
 ghost use Rattle.finite.specs.Logic.{◌and◌};
 ghost use Rattle.model.specs.Limits.{SOURCES};
 ghost use Rattle.model.specs.Edge.{consistent};
@@ -12,25 +12,11 @@ ghost use Rattle.sets_grids.specs.Location.{ToJudge};
 ghost use Rattle.sets_edges.specs.Edges.{Sources};
 ghost use Rattle.find_axioms.specs.Sources.{source_in};
 ghost use Rattle.ask_check.specs.Engine.{Buffers};
-ghost use Rattle.ask_fill.specs.Parts.{Fills, is_none};
+ghost use Rattle.ask_fill.specs.Parts.{Fills};
 
 use crate::parts;
-use find_axioms::overwritten::Overwrite;
 use model::FillAnswer;
 use run::Run;
-
-fn is_none(o: Overwrite) -> bool
-    ensures { result ≡ is_none o }
-{
-    match o {
-        Overwrite::At {
-            reader: _,
-            writer: _,
-            byte: _,
-        } => false,
-        Overwrite::Nothing => true,
-    }
-}
 
 // Whether the edges have no cycle and no read's source is overwritten.
 // Ruled out: one that says yes of a cycle of edges where nothing is overwritten; one that writes over location order.
@@ -44,7 +30,7 @@ fn is_consistent(t: &Run, n: usize, src: &[u16], s: &[u64], w: &mut [u64]) -> bo
     if x != n {
         return false;
     }
-    is_none(sets_overwritten::first_overwrite(t, n, src, s, w))
+    sets_overwritten::first_overwrite(t, n, src, s, w).is_none()
 }
 
 // Whether a check admits the sources, and the table with them is consistent.
@@ -71,7 +57,7 @@ fn choose_sources(
 ) -> FillAnswer
     requires { (SOURCES ≤ length out.old) × (n ≤ length src.now) × ToJudge (table_in t.now n) n s.now w.old }
     ensures { let t = table_in t.entry.now n in
-        (result ≡ fill_answer (filled_or none t (chosen t (source_in src.now))))
+        (Ok result ≡ fill_answer (filled_or none t (chosen t (source_in src.now))))
         × (out.new ≡ sources_after (filled_or none t (chosen t (source_in src.now))) out.old)
         × Within EDGE LAYERS_END w.old w.new }
 {
@@ -88,14 +74,13 @@ fn choose_sources(
 // Ruled out: one that fills a table that has a race; one that writes to out where the answer is no fill.
 fn settle(t: &Run, n: usize, src: &[u16], s: &[u64], w: &mut [u64], out: &mut [u16]) -> FillAnswer
     requires { (SOURCES ≤ length out.old) × (n ≤ length src.now) × ToJudge (table_in t.now n) n s.now w.old }
-    ensures { (result ≡ fill_answer (outcome (table_in t.now n) (source_in src.now)))
+    ensures { (Ok result ≡ fill_answer (outcome (table_in t.now n) (source_in src.now)))
         × (out.new ≡ sources_after (outcome (table_in t.now n) (source_in src.now)) out.old)
         × Within EDGE LAYERS_END w.old w.new }
 {
-    let f = sets_races::first_race(t, n, s, w);
-    let find_race::Found::Nothing = f else {
-        return parts::race_answer(f);
-    };
+    if let Some(race) = sets_races::first_race(t, n, s, w) {
+        return FillAnswer::Race(race);
+    }
     choose_sources(t, n, src, s, w, out)
 }
 

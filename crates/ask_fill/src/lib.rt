@@ -1,7 +1,7 @@
 // Fills: the source of each blank of a table in one or two pieces, or why there is none.
 #![tactic(auto)]
 
-ghost use Rattle.std.specs.Prelude.{◌≡◌, true, ◌≤◌, length};
+ghost use Rattle.std.specs.Prelude.{◌≡◌, true, ◌≤◌, length, Ok};
 ghost use Rattle.model.specs.Limits.{SOURCES};
 ghost use Rattle.model.specs.Table.{source_of};
 ghost use Rattle.model.specs.Check.{wiped};
@@ -15,7 +15,7 @@ ghost use Rattle.ask_check.specs.Engine.{Buffers};
 ghost use Rattle.ask_fill.specs.Parts.{Fills};
 ghost use Rattle.ask_fill.specs.Whole.{FilledBy, FilledBoth};
 
-use model::{Admission, FillAnswer};
+use model::{FillAnswer, Refusal};
 use run::Run;
 
 pub mod parts; // what both engines do
@@ -45,7 +45,7 @@ fn fill_run_by(
 fn fill_run(t: &Run, n: usize, sets: bool, work: &mut [u64], sources: &mut [u16]) -> FillAnswer
     requires { Buffers SOURCES work.old sources.old × RunOf true t.now n }
     ensures { let o = outcome (table_in t.now n) (source_of (rows_in t.now)) in
-        (result ≡ fill_answer o) × (work.new ≡ wiped work.old) × (sources.new ≡ sources_after o sources.old) }
+        (Ok result ≡ fill_answer o) × (work.new ≡ wiped work.old) × (sources.new ≡ sources_after o sources.old) }
 {
     let src = find_sources::sources::read_sources(t, n);
     let r = fill_run_by(sets, t, n, &src, work, sources);
@@ -73,7 +73,7 @@ pub fn fill_by(
     sets: bool,
     work: &mut [u64],
     sources: &mut [u16],
-) -> FillAnswer
+) -> Result<FillAnswer, Refusal>
     ensures { FilledBoth chains first.now second.now result
         work.old work.new sources.old sources.new
         × Bytes first.now × Bytes second.now }
@@ -81,7 +81,7 @@ pub fn fill_by(
     first_byte(first);
     first_byte(second);
     let mut t = [0u8; run::SIZE];
-    let a = door_open::enter(
+    let counts = door_open::enter(
         first,
         second,
         chains,
@@ -90,19 +90,14 @@ pub fn fill_by(
         work.len(),
         sources.len(),
         &mut t,
-    );
-    let Admission::Admitted {
-        agents: _,
-        rows: count,
-    } = a
-    else {
-        let x = model::refusal_of(a);
-        return FillAnswer::Refused {
-            number: x.number,
-            row: x.row,
-        };
-    };
-    fill_run(&t, count as usize, sets, work, sources)
+    )?;
+    Ok(fill_run(
+        &t,
+        counts.rows as usize,
+        sets,
+        work,
+        sources,
+    ))
 }
 
 // The same, by sets of rows.
@@ -113,7 +108,7 @@ pub fn fill_both(
     chains: bool,
     work: &mut [u64],
     sources: &mut [u16],
-) -> FillAnswer
+) -> Result<FillAnswer, Refusal>
     ensures { FilledBoth chains first.now second.now result
         work.old work.new sources.old sources.new
         × Bytes first.now × Bytes second.now }
@@ -123,7 +118,7 @@ pub fn fill_both(
 
 // Fills the blanks of a table in one piece.
 // Ruled out: one that takes the table for its own second piece too; one that turns the switch round.
-pub fn fill(table: &[u8], chains: bool, work: &mut [u64], sources: &mut [u16]) -> FillAnswer
+pub fn fill(table: &[u8], chains: bool, work: &mut [u64], sources: &mut [u16]) -> Result<FillAnswer, Refusal>
     ensures { FilledBy chains table.now result work.old work.new sources.old sources.new
         × Bytes table.now }
 {
@@ -137,7 +132,7 @@ pub fn fill_by_flags(
     chains: bool,
     work: &mut [u64],
     sources: &mut [u16],
-) -> FillAnswer
+) -> Result<FillAnswer, Refusal>
     ensures { FilledBy chains table.now result work.old work.new sources.old sources.new
         × Bytes table.now }
 {

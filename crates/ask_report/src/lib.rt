@@ -1,11 +1,11 @@
 // The weekly report of a table in one or two pieces: any bytes, and buffers of any length.
 #![tactic(auto)]
 
-ghost use Rattle.std.specs.Prelude.{◌≡◌, false, length};
+ghost use Rattle.std.specs.Prelude.{◌≡◌, false, length, Ok};
 ghost use Rattle.model.specs.Limits.{CYCLE};
 ghost use Rattle.model.specs.Table.{source_of};
 ghost use Rattle.model.specs.Check.{verdict, check, check_answer, cycle_after, work_after, wiped};
-ghost use Rattle.model.specs.Report.{report_answer, report};
+ghost use Rattle.model.specs.Report.{report_answer, report, told_answer};
 ghost use Rattle.door_pieces.specs.Pieces.{check_both, report_both};
 ghost use Rattle.run.specs.Layout.{rows_in, table_in};
 ghost use Rattle.door_open.specs.Opened.{RunOf};
@@ -13,7 +13,7 @@ ghost use Rattle.model_placing.specs.Judge.{Sourced};
 ghost use Rattle.sets_grids.specs.Location.{ToJudge};
 ghost use Rattle.ask_check.specs.Engine.{Buffers};
 
-use model::{Admission, CheckAnswer, ReportAnswer};
+use model::{CheckAnswer, Refusal, ReportAnswer};
 use run::Run;
 
 pub mod counts; // the four counts, and the share
@@ -21,29 +21,12 @@ pub mod counts; // the four counts, and the share
 // A check's answer c as a report's: itself where the table is inconsistent, else the counts.
 fn answer(c: CheckAnswer, t: &Run, n: usize, s: &[u64], w: &[u64]) -> ReportAnswer
     requires { ToJudge (table_in t.now n) n s.now w.now }
-    ensures { result ≡ report_answer c (table_in t.now n) }
+    ensures { Ok result ≡ told_answer (report_answer (Ok c) (table_in t.now n)) }
 {
     match c {
-        CheckAnswer::Refused { number, row } => ReportAnswer::Refused {
-            number: number,
-            row: row,
-        },
-        CheckAnswer::Cycle { rows: size } => ReportAnswer::Cycle { rows: size },
-        CheckAnswer::Overwritten {
-            reader,
-            writer,
-            byte,
-        } => ReportAnswer::Overwritten {
-            reader: reader,
-            writer: writer,
-            byte: byte,
-        },
-        CheckAnswer::Race {
-            first: _,
-            second: _,
-            byte: _,
-        } => counts::report_of(t, n, s, w),
-        CheckAnswer::RaceFree => counts::report_of(t, n, s, w),
+        CheckAnswer::Cycle { rows } => ReportAnswer::Cycle { rows },
+        CheckAnswer::Overwritten(found) => ReportAnswer::Overwritten(found),
+        CheckAnswer::Race(_) | CheckAnswer::RaceFree => counts::report_of(t, n, s, w),
     }
 }
 
@@ -51,7 +34,7 @@ fn answer(c: CheckAnswer, t: &Run, n: usize, s: &[u64], w: &[u64]) -> ReportAnsw
 fn report_run(t: &Run, n: usize, work: &mut [u64], cycle: &mut [u16]) -> ReportAnswer
     requires { Buffers CYCLE work.old cycle.old × RunOf false t.now n × Sourced (table_in t.now n) (source_of (rows_in t.now)) }
     ensures { let v = verdict (table_in t.now n) (source_of (rows_in t.now)) in
-        (result ≡ report_answer (check_answer v) (table_in t.now n))
+        (Ok result ≡ told_answer (report_answer (check_answer v) (table_in t.now n)))
         × (work.new ≡ wiped work.old)
         × (cycle.new ≡ cycle_after v cycle.old) }
 {
@@ -73,14 +56,14 @@ pub fn report_both(
     chains: bool,
     work: &mut [u64],
     cycle: &mut [u16],
-) -> ReportAnswer
+) -> Result<ReportAnswer, Refusal>
     ensures { let judged = check_both chains first.now second.now (length work.old) (length cycle.old) in
-        (result ≡ report_both chains first.now second.now (length work.old) (length cycle.old))
+        (result ≡ told_answer (report_both chains first.now second.now (length work.old) (length cycle.old)))
         × (work.new ≡ work_after judged work.old)
         × (cycle.new ≡ cycle_after judged cycle.old) }
 {
     let mut t = [0u8; run::SIZE];
-    let a = door_open::enter(
+    let counts = door_open::enter(
         first,
         second,
         chains,
@@ -89,26 +72,15 @@ pub fn report_both(
         work.len(),
         cycle.len(),
         &mut t,
-    );
-    let Admission::Admitted {
-        agents: _,
-        rows: count,
-    } = a
-    else {
-        let x = model::refusal_of(a);
-        return ReportAnswer::Refused {
-            number: x.number,
-            row: x.row,
-        };
-    };
-    report_run(&t, count as usize, work, cycle)
+    )?;
+    Ok(report_run(&t, counts.rows as usize, work, cycle))
 }
 
 // Reports on one recorded run in one piece.
 // Ruled out: one that takes the table for its own second piece too; one that turns the switch round.
-pub fn report(table: &[u8], chains: bool, work: &mut [u64], cycle: &mut [u16]) -> ReportAnswer
+pub fn report(table: &[u8], chains: bool, work: &mut [u64], cycle: &mut [u16]) -> Result<ReportAnswer, Refusal>
     ensures { let judged = check chains table.now (length work.old) (length cycle.old) in
-        (result ≡ report chains table.now (length work.old) (length cycle.old))
+        (result ≡ told_answer (report chains table.now (length work.old) (length cycle.old)))
         × (work.new ≡ work_after judged work.old)
         × (cycle.new ≡ cycle_after judged cycle.old) }
 {

@@ -2,11 +2,11 @@
 #![tactic(auto)]
 
 ghost use Rattle.std.specs.Prelude.{◌≡◌};
-ghost use Rattle.model.specs.Refusal.{admission};
+ghost use Rattle.model.specs.Refusal.{admission, admission_answer};
 ghost use Rattle.door_admit.specs.Rows.{rows_admission};
 
 use door_rows::{bytes, scopes};
-use model::{Admission, Places};
+use model::{Counts, Places, Refusal};
 
 pub mod header; // 1 to 4, 16 to 18
 pub mod row_faults; // 5 to 7, 19, 20: a row by itself
@@ -23,44 +23,38 @@ pub fn admit_rows(
     agents: u8,
     count: u8,
     blanks: bool,
-) -> Admission
-    ensures { result ≡ rows_admission blanks hosts agents rows.now p counted count }
+) -> Result<Counts, Refusal>
+    ensures { result ≡ admission_answer (rows_admission blanks hosts agents rows.now p counted count) }
 {
     let n = count as u16;
     let i = row_faults::first_row_fault(rows, hosts, p, agents, n);
     if i < n {
         let number = row_faults::row_fault_at(rows, hosts, &p, agents, i);
-        return Admission::Refused {
-            number: number,
-            row: i,
-        };
+        return Err(Refusal { number, row: i });
     }
     let j = table_faults::first_table_fault(rows, p, counted, n, blanks);
     if j < n {
         let number = table_faults::table_fault(rows, p, counted, n, blanks, j);
-        return Admission::Refused {
-            number: number,
-            row: j,
-        };
+        return Err(Refusal { number, row: j });
     }
-    Admission::Admitted {
-        agents: agents,
+    Ok(Counts {
+        agents,
         rows: count,
-    }
+    })
 }
 
 // What a table is refused for, or its counts. `blanks` says whether a blank is allowed: in a fill, not in a check.
 // Two wrong programs that the contract rules out: one that tries 5 on all rows before 6 on any, so that row 3's refusal 5
 // hides row 1's refusal 6; one that lets a blank pass in a check, or in a fill on an atomic read.
-pub fn admit(s: &[u8], blanks: bool) -> Admission
-    ensures { result ≡ admission blanks s.now }
+pub fn admit(s: &[u8], blanks: bool) -> Result<Counts, Refusal>
+    ensures { result ≡ admission_answer (admission blanks s.now) }
 {
     let fault = header::header_fault(s);
     if fault != 0 {
-        return Admission::Refused {
+        return Err(Refusal {
             number: fault,
             row: 0,
-        };
+        });
     }
     let hosts = bytes::has_hosts(s);
     let agents = bytes::agents_at(s);

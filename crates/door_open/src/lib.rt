@@ -3,6 +3,7 @@
 
 ghost use Rattle.std.specs.Prelude.{◌≡◌, ◌++◌, ◌+◌, ◌≤◌, ◌<◌, min, length, get_or, replicate};
 ghost use Rattle.model.specs.Header.{HEADER, has_hosts, row_bytes};
+ghost use Rattle.model.specs.Refusal.{admission_answer};
 ghost use Rattle.door_pieces.specs.Pieces.{AREA, early_fault, admission_both};
 ghost use Rattle.door_pieces.specs.Entry.{door_both};
 ghost use Rattle.run.specs.Layout.{SIZE, DEPENDS, ROWS_AT};
@@ -10,7 +11,7 @@ ghost use Rattle.door_open.specs.Laid.{Put, Laid, head_of, place_byte, place_cou
 ghost use Rattle.door_open.specs.Opened.{Opens};
 
 use door_rows::{bytes, pick};
-use model::Admission;
+use model::{Counts, Refusal};
 
 // The bytes of all dependencies, and of all rows, that there may be.
 const DEPENDS_SIZE: usize = 258;
@@ -84,9 +85,9 @@ fn lay(first: &[u8], second: &[u8], t: &mut [u8])
 // ---- the door
 
 // What the rows of a run of two pieces are refused for, or their counts; no earlier refusal holds of the two.
-fn admit(first: &[u8], second: &[u8], t: &[u8], blanks: bool) -> Admission
+fn admit(first: &[u8], second: &[u8], t: &[u8], blanks: bool) -> Result<Counts, Refusal>
     requires { (early_fault first.now second.now ≡ 0) × Laid 0 first.now second.now t.now }
-    ensures { result ≡ admission_both blanks first.now second.now }
+    ensures { result ≡ admission_answer (admission_both blanks first.now second.now) }
 {
     let n = door_pieces::rows_both(first, second);
     let hosts = bytes::has_hosts(first);
@@ -110,20 +111,20 @@ pub fn enter(
     work: usize,
     buffer: usize,
     t: &mut [u8],
-) -> Admission
+) -> Result<Counts, Refusal>
     requires { t.old ≡ replicate SIZE 0 }
-    ensures { (result ≡ door_both needs blanks first.now second.now work buffer)
+    ensures { (result ≡ admission_answer (door_both needs blanks first.now second.now work buffer))
         × Opens needs blanks chains first.now second.now work buffer result t.new }
 {
     if !((model::WORK <= work) & (needs <= buffer)) {
-        return Admission::Refused { number: 11, row: 0 };
+        return Err(Refusal { number: 11, row: 0 });
     }
     let fault = door_pieces::early_fault(first, second);
     if fault != 0 {
-        return Admission::Refused {
+        return Err(Refusal {
             number: fault,
             row: 0,
-        };
+        });
     }
     lay(first, second, t);
     let a = admit(first, second, t, blanks);

@@ -4,11 +4,11 @@ use Rattle.std.specs.Prelude.{◌≡◌, Bool, List, [], ℕ}
 use Rattle.std.proofs.Math.Path.{refl, ap, ap₂}
 use Rattle.std.proofs.Common.{◌∙◌}
 use Rattle.std.proofs.Math.Bool.{true, false}
-use Rattle.model.specs.declared.Admission.{Admission}
-use Rattle.model.specs.declared.Admission.TheVariants.{Admitted, Refused}
+use Rattle.model.specs.Refusal.{Admission}
+use Rattle.model.specs.Refusal.{Admitted, Refused}
 use Rattle.model.specs.declared.Reason.{Reason}
-use Rattle.model.specs.declared.ReportAnswer.{ReportAnswer}
-use Rattle.model.specs.declared.ReportAnswer.TheVariants as told
+use Rattle.model.specs.Report.{Told}
+use Rattle.model.specs.Report as told
 use Rattle.model.specs.Limits.{CYCLE, SOURCES, STEPS}
 use Rattle.model.specs.Table.{Table, table_under, table_of, sources_of}
 use Rattle.model.specs.Refusal.{buffers_fit, admission, when_admitted}
@@ -61,20 +61,20 @@ module _ (chains : Bool) where
     -- ---- report
 
     -- of an admitted table
-    abbrev pub report_of_table : List ℕ → ReportAnswer
+    abbrev pub report_of_table : List ℕ → Told
     report_of_table t = report_answer (check_answer (verdict_of t)) (table_under chains t)
 
     report_opens : buffers_fit CYCLE work buffer ≡ true → (t : List ℕ)
-        → report chains t work buffer ≡ when_admitted told.Refused (admission false t) (report_of_table t)
+        → report chains t work buffer ≡ when_admitted told.refused (admission false t) (report_of_table t)
     unfolding report report_answer check_answer when_admitted
     report_opens e t = ap (λ (v : Verdict). report_answer (check_answer v) (table_under chains t)) (check_opens e t) ∙ go (admission false t)
       where
         go : (a : Admission)
-            → report_answer (check_answer (when_admitted verdicts.refused a (verdict_of t))) (table_under chains t) ≡ when_admitted told.Refused a (report_of_table t)
+            → report_answer (check_answer (when_admitted verdicts.refused a (verdict_of t))) (table_under chains t) ≡ when_admitted told.refused a (report_of_table t)
         go (Refused n i) = refl
         go (Admitted g n) = refl
 
-    pub report_short : buffers_fit CYCLE work buffer ≡ false → (t : List ℕ) → report chains t work buffer ≡ told.Refused 11 0
+    pub report_short : buffers_fit CYCLE work buffer ≡ false → (t : List ℕ) → report chains t work buffer ≡ told.refused 11 0
     unfolding report report_answer check_answer
     report_short e t = ap (λ (v : Verdict). report_answer (check_answer v) (table_under chains t)) (check_short e t)
 
@@ -82,13 +82,13 @@ module _ (chains : Bool) where
     same_report f z = ap₂ (λ (v : Verdict) (t : Table). report_answer (check_answer v) t) (same_verdict f z) (none_table f z chains)
 
     pub report_both_lem : (f s : List ℕ)
-        → report_both chains f s work buffer ≡ when_admitted told.Refused (door_both CYCLE false f s work buffer) (report_of_table (joined f s))
+        → report_both chains f s work buffer ≡ when_admitted told.refused (door_both CYCLE false f s work buffer) (report_of_table (joined f s))
     unfolding report_both
-    report_both_lem f s = door_opened told.Refused (λ t. report chains t work buffer) report_of_table false CYCLE work buffer report_opens f s
+    report_both_lem f s = door_opened told.refused (λ t. report chains t work buffer) report_of_table false CYCLE work buffer report_opens f s
 
     pub none_report : (f : List ℕ) → report_both chains f [] work buffer ≡ report chains f work buffer
     unfolding report_both
-    none_report f = none_door told.Refused (λ t. report chains t work buffer) report_of_table false CYCLE work buffer report_opens f
+    none_report f = none_door told.refused (λ t. report chains t work buffer) report_of_table false CYCLE work buffer report_opens f
         (same_report f) (λ e. report_short e f)
 
 -- ---- fill

@@ -11,14 +11,16 @@ use Rattle.std.proofs.Math.ListN.{get_or-append}
 use Rattle.std.proofs.lemmas.Bool.{not-false}
 use Rattle.finite.specs.Logic.{◌and◌, split, not_out}
 use Rattle.bits.specs.Bit.{zeros, length_zeros, zeros_in, zeros_out}
-use Rattle.model.specs.declared.Admission.{Admission}
-use Rattle.model.specs.declared.Admission.TheVariants.{Admitted, Refused}
+use Rattle.std.specs.declared.result.Result.{Result}
+use Rattle.std.specs.declared.result.Result.TheVariants.{Ok, Err}
+use Rattle.model.specs.declared.Counts.{Counts}
+use Rattle.model.specs.Refusal.{Admission, Admitted, Refused, admission_answer}
 use Rattle.model.specs.Limits.{ROWS, WORK}
 use Rattle.model.specs.Table.{Mode, mode_of, row_of, table_under, table_of}
 use Rattle.model.specs.Header.{rows_at, row_bytes, places_of}
-use Rattle.model.specs.Refusal.{buffers_fit, admission, refusal_of, when_admitted}
+use Rattle.model.specs.Refusal.{buffers_fit, admission, when_admitted}
 use Rattle.model.specs.Check.{wiped}
-use Rattle.model_laws.specs.AdmissionLaws.{not_admitted, Sound, sound_admitted, admitted_sound, rows_fit}
+use Rattle.model_laws.specs.AdmissionLaws.{not_admitted, answer_admitted, answer_refused, Sound, sound_admitted, admitted_sound, rows_fit}
 use Rattle.model.specs.Refusal.{shape_fault}
 use Rattle.door_admit.proofs.Laws.{shape_refused, header_refused}
 use Rattle.model.specs.declared.Refusal.{Refusal}
@@ -49,14 +51,14 @@ module _ {blanks : Bool} {b : List ℕ} {p : List (List ℕ)} {mode : Mode} {n :
 
 -- ---- laws: an admission taken apart
 
-module _ {A : Type 0} (refused : ℕ → ℕ → A) (v : A) (a b : Admission) (e : a ≡ b) where
-  pub when_refused : {n i : ℕ} (x : Refusal) → a ≡ Refused n i → x ≡ refusal_of a → when_admitted refused b v ≡ refused x.number x.row
-  unfolding when_admitted refusal_of
-  when_refused x h q = rw (← e, q, h) refl
-
-  pub when_admitted_lem : {g n : ℕ} → a ≡ Admitted g n → when_admitted refused b v ≡ v
+module _ {A : Type 0} (refused : ℕ → ℕ → A) (v : A) (a : Result Counts Refusal) (b : Admission) (e : a ≡ admission_answer b) where
+  pub when_refused : {x : Refusal} → a ≡ Err x → when_admitted refused b v ≡ refused x.number x.row
   unfolding when_admitted
-  when_admitted_lem h = rw (← e, h) refl
+  when_refused h = rw (answer_refused b (sym e ∙ h)) refl
+
+  pub when_admitted_lem : {k : Counts} → a ≡ Ok k → when_admitted refused b v ≡ v
+  unfolding when_admitted
+  when_admitted_lem h = rw (answer_admitted b (sym e ∙ h)) refl
 
 -- refusal 11, from the two lengths
 pub door_short : (needs : ℕ) (blanks : Bool) (f s : List ℕ) (work buffer : ℕ) → not (leb WORK work and leb needs buffer) ≡ true

@@ -1,12 +1,14 @@
 -- A table in two pieces: the first an ordinary table f, the second only rows s, to be added after its rows. What the two are joined to,
 -- what they are refused for, and what is answered of them: that of the joined table.
 use Rattle.std.specs.Prelude.{Bool, cond, List, [], ◌∷◌, ◌++◌, ℕ, ◌+◌, ◌-◌, ◌*◌, ◌/◌, ◌%◌, length, get_or, take, drop, ltb, leb, eqb}
+use Rattle.std.specs.declared.option.Option.{Option}
+use Rattle.std.specs.declared.option.Option.TheVariants.{None, Some}
 use Rattle.finite.specs.Lists.{tabulate}
-use Rattle.model.specs.declared.Admission.{Admission}
-use Rattle.model.specs.declared.Admission.TheVariants.{Refused}
+use Rattle.model.specs.Refusal.{Admission}
+use Rattle.model.specs.Refusal.{Refused}
 use Rattle.model.specs.declared.Reason.{Reason}
-use Rattle.model.specs.declared.ReportAnswer.{ReportAnswer}
-use Rattle.model.specs.declared.ReportAnswer.TheVariants as told
+use Rattle.model.specs.Report.{Told}
+use Rattle.model.specs.Report as told
 use Rattle.model.specs.Limits.{ROWS, CYCLE, SOURCES, STEPS}
 use Rattle.model.specs.Header.{HEADER, ROW_BYTES, version_at, agents_at, rows_at, zero_at, rows_begin, row_bytes, dependency_bytes}
 use Rattle.model.specs.Refusal.{buffers_fit, hosts_fault, admission}
@@ -68,9 +70,9 @@ fill_both chains f s work buffer =
     cond (buffers_fit SOURCES work buffer) (of_both outcome.refused (λ t. outcome.fill chains t work buffer) f s) (outcome.refused 11 0)
 
 -- its buffers are left as a check leaves them
-unfoldable pub report_both : Bool → List ℕ → List ℕ → ℕ → ℕ → ReportAnswer
+unfoldable pub report_both : Bool → List ℕ → List ℕ → ℕ → ℕ → Told
 report_both chains f s work buffer =
-    cond (buffers_fit CYCLE work buffer) (of_both told.Refused (λ t. report chains t work buffer) f s) (told.Refused 11 0)
+    cond (buffers_fit CYCLE work buffer) (of_both told.refused (λ t. report chains t work buffer) f s) (told.refused 11 0)
 
 unfoldable pub derive_both : List ℕ → List ℕ → ℕ → ℕ → ℕ → ℕ → reason.Derived
 derive_both f s m k work buffer =
@@ -96,19 +98,19 @@ row_part f s n =
     []
 
 -- where those bytes begin, for a caller that can be handed no part of a slice
-unfoldable pub row_place : List ℕ → List ℕ → ℕ → RowPlace
+unfoldable pub row_place : List ℕ → List ℕ → ℕ → Option RowPlace
 row_place f s n =
     cond (eqb (early_fault f s) 0)
     (cond (ltb n (rows_at f))
-    (place.First (rows_begin f + ROW_BYTES * n))
-    (cond (ltb n (rows_both f s)) (place.Second (ROW_BYTES * (n - rows_at f))) place.Neither))
-    place.Neither
+    (Some (place.First (rows_begin f + ROW_BYTES * n)))
+    (cond (ltb n (rows_both f s)) (Some (place.Second (ROW_BYTES * (n - rows_at f)))) None))
+    None
 
 -- the sixteen bytes at a place (law `part_at`: they are the row's part)
-unfoldable pub part_at : List ℕ → List ℕ → RowPlace → List ℕ
-part_at f s (place.First at) = take ROW_BYTES (drop at f)
-part_at f s (place.Second at) = take ROW_BYTES (drop at s)
-part_at f s place.Neither = []
+unfoldable pub part_at : List ℕ → List ℕ → Option RowPlace → List ℕ
+part_at f s (Some (place.First at)) = take ROW_BYTES (drop at f)
+part_at f s (Some (place.Second at)) = take ROW_BYTES (drop at s)
+part_at f s None = []
 
 -- ---- the rows of both, as the engine takes them
 

@@ -1,5 +1,7 @@
 -- What the joined table of two pieces is. Assumes nothing.
 use Rattle.std.specs.Prelude.{◌≡◌, Bool, ◌⊎◌, ℕ, zero, suc, ◌+◌, ◌-◌, ◌*◌, ◌/◌, ◌%◌, ◌≤◌, ◌<◌, get_or, take, replicate, ltb, leb, eqb}
+use Rattle.std.specs.declared.option.Option.{Option}
+use Rattle.std.specs.declared.option.Option.TheVariants.{None, Some}
 use Rattle.std.proofs.Math.Path.{refl, sym, ap}
 use Rattle.std.proofs.Common.{◌∙◌, subst, inl, inr, ext_get_or, take-add, drop-drop, take-take, take_at}
 use Rattle.std.proofs.Math.Bool.{true, false, cond}
@@ -12,7 +14,7 @@ use Rattle.std.proofs.lemmas.List.{drop-append-le, take-append-le}
 use borrow.Author.Tests.{eqb-true, leb-true, eq-eqb, ne_eqb, le-leb, lt-ltb, le-ltb}
 use Rattle.finite.specs.Logic.{split, and_true, not_both, which}
 use Rattle.finite.specs.Lists.{tabulate, length_tabulate, get_d_tabulate, tabulate_cong}
-use Rattle.model.specs.declared.Admission.TheVariants.{Refused}
+use Rattle.model.specs.Refusal.{Refused}
 use Rattle.model.specs.Limits.{AGENTS, ROWS}
 use Rattle.model.specs.Header.{HEADER, ROW_BYTES, PLACE_BYTES, HOSTS_PLACE_BYTES, DEPENDENCY_BYTES, pair_at, quad_at, count_at, version_at}
 use Rattle.model.specs.Header.{zero_at, agents_at, rows_at, has_hosts, shader_place_at, any_place_at, place_at, slot_at, places_of, rows_begin, rows_end, size_of, row_bytes}
@@ -558,23 +560,23 @@ part_at_lem f s n = go (eqb (early_fault f s) 0) (ltb n (rows_at f)) (ltb n (row
 
     go : (a b c : Bool)
         → cond a (cond b (take ROW_BYTES (drop x f)) (cond c (take ROW_BYTES (drop y s)) [])) []
-        ≡ part_at f s (cond a (cond b (place.First x) (cond c (place.Second y) place.Neither)) place.Neither)
+        ≡ part_at f s (cond a (cond b (Some (place.First x)) (cond c (Some (place.Second y)) None)) None)
     go true true c = refl
     go true false true = refl
     go true false false = refl
     go false b c = refl
 
-pub place_nothing : (f s : List ℕ) (w : RowPlace) → w ≡ place.Neither → part_at f s w ≡ []
+pub place_nothing : (f s : List ℕ) (w : Option RowPlace) → w ≡ None → part_at f s w ≡ []
 unfolding part_at
 place_nothing f s w e = ap (part_at f s) e
 
 module _ (f s : List ℕ) (n h : ℕ) (e : h ≡ early_fault f s) where
-  pub place_refused : (h ≡ 0 → ⊥) → place.Neither ≡ row_place f s n
+  pub place_refused : (h ≡ 0 → ⊥) → None ≡ row_place f s n
   unfolding row_place
   place_refused d = rw (← e, ne_eqb h 0 d) refl
 
   module _ (z : h ≡ 0) (r : ℕ) (q : r ≡ rows_at f) where
-    pub place_first : (b : ℕ) → b ≡ rows_begin f → n < r → place.First (b + ROW_BYTES * n) ≡ row_place f s n
+    pub place_first : (b : ℕ) → b ≡ rows_begin f → n < r → Some (place.First (b + ROW_BYTES * n)) ≡ row_place f s n
     unfolding row_place
     place_first b w l = rw (← e, z, ← q, ← w, lt-ltb n r l) refl
 
@@ -582,11 +584,11 @@ module _ (f s : List ℕ) (n h : ℕ) (e : h ≡ early_fault f s) where
       pub second_fits : n < b → ROW_BYTES * (n - r) < AREA
       second_fits l = let t = both_fit f s (early_pieces f s h e z) in omega arith
 
-      pub place_second : n < b → place.Second (ROW_BYTES * (n - r)) ≡ row_place f s n
+      pub place_second : n < b → Some (place.Second (ROW_BYTES * (n - r))) ≡ row_place f s n
       unfolding row_place
       place_second l = rw (← e, z, ← q, ← w, le-ltb n r k, lt-ltb n b l) refl
 
-      pub place_past : b ≤ n → place.Neither ≡ row_place f s n
+      pub place_past : b ≤ n → None ≡ row_place f s n
       unfolding row_place
       place_past l = rw (← e, z, ← q, ← w, le-ltb n r k, le-ltb n b l) refl
 
@@ -624,10 +626,10 @@ module _ (f s : List ℕ) (n : ℕ) (x : List ℕ) (is : x ≡ row_part f s n) w
           ap length (is ∙ part_second f s n 0 (sym z) refl (rows_at f) refl (rows_both f s) refl k l)
           ∙ long (ROW_BYTES * (n - rows_at f)) s (second_end f s n (rows_at f) (rows_both f s) refl k refl l)
 
-  pub place_empty : length x ≡ 0 → place.Neither ≡ row_place f s n
+  pub place_empty : length x ≡ 0 → None ≡ row_place f s n
   place_empty e = go (ℕ_discrete (early_fault f s) 0) (dec_lt n (rows_both f s))
     where
-      go : Dec (early_fault f s ≡ 0) → Dec (n < rows_both f s) → place.Neither ≡ row_place f s n
+      go : Dec (early_fault f s ≡ 0) → Dec (n < rows_both f s) → None ≡ row_place f s n
       go (yes z) (yes l) = absurd (let q = held_length z l in omega arith)
       go (yes z) (no h) = place_past f s n 0 (sym z) refl (rows_at f) refl (rows_both f s) refl (let k = rows_less f s in omega arith) (omega arith)
       go (no d) b = place_refused f s n (early_fault f s) refl d

@@ -1,5 +1,7 @@
 -- What is promised of a table in two pieces, in the words of docs/RULES.md: a page to read beside Pieces.antt. Assumes nothing.
 use Rattle.std.specs.Prelude.{◌≡◌, Bool, true, false, cond, List, [], ◌++◌, ℕ, ◌+◌, ◌-◌, ◌*◌, ◌/◌, ◌%◌, ◌≤◌, ◌<◌, length, take, drop}
+use Rattle.std.specs.declared.option.Option.{Option}
+use Rattle.std.specs.declared.option.Option.TheVariants.{None, Some}
 use Rattle.std.proofs.Math.Path.{refl}
 use Rattle.std.proofs.Common.{sym, ◌∙◌}
 use borrow.Author.Tests.{ne_eqb, le-leb, lt-leb}
@@ -131,9 +133,9 @@ pub record Part (f s : List ℕ) (n : ℕ) : Type 0 where
   pub refused : (early_fault f s ≡ 0 → ⊥) → row_part f s n ≡ []
   -- the place that C is told is that part's: a row in the first piece, one in the second, or nowhere
   pub at : row_part f s n ≡ part_at f s (row_place f s n)
-  pub first : early_fault f s ≡ 0 → n < rows_at f → row_place f s n ≡ place.First (rows_begin f + ROW_BYTES * n)
-  pub second : early_fault f s ≡ 0 → rows_at f ≤ n → n < rows_both f s → row_place f s n ≡ place.Second (ROW_BYTES * (n - rows_at f))
-  pub nowhere : row_place f s n ≡ place.Neither → row_part f s n ≡ []
+  pub first : early_fault f s ≡ 0 → n < rows_at f → row_place f s n ≡ Some (place.First (rows_begin f + ROW_BYTES * n))
+  pub second : early_fault f s ≡ 0 → rows_at f ≤ n → n < rows_both f s → row_place f s n ≡ Some (place.Second (ROW_BYTES * (n - rows_at f)))
+  pub nowhere : row_place f s n ≡ None → row_part f s n ≡ []
 
 pub part_is : (f s : List ℕ) (n : ℕ) → Part f s n
 part_is f s n =

@@ -80,29 +80,28 @@ pub fn row_part<'a>(first: &'a [u8], second: &'a [u8], n: u16) -> &'a [u8]
     &second[..0]
 }
 
-// Where row n's sixteen bytes begin: in the first piece, in the second, or nowhere.
+// Where a row's sixteen bytes begin: in the first piece, or in the second.
 #[derive(Clone, Copy)]
 pub enum RowPlace {
     First { at: u16 },
     Second { at: u16 },
-    Neither,
 }
 
-// The place of that part, for a caller that can be handed no part of a slice.
+// The place of that part, for a caller that can be handed no part of a slice; none where the part is empty.
 // Ruled out: one that gives a place where the part is empty; one whose place in the second piece counts the first piece's rows.
-pub fn row_place<'a>(first: &'a [u8], second: &'a [u8], n: u16) -> RowPlace
+pub fn row_place<'a>(first: &'a [u8], second: &'a [u8], n: u16) -> Option<RowPlace>
     ensures { result ≡ row_place first.now second.now n }
 {
     let part = row_part(first, second, n);
     if part.len() == 0 {
-        return RowPlace::Neither;
+        return None;
     }
     let i = n as usize;
     let rows = bytes::rows_at(first) as usize;
     if i < rows {
         let at = bytes::rows_begin(first) + bytes::ROW_BYTES * i;
-        return RowPlace::First { at: at as u16 };
+        return Some(RowPlace::First { at: at as u16 });
     }
     let at = bytes::ROW_BYTES * (i - rows);
-    RowPlace::Second { at: at as u16 }
+    Some(RowPlace::Second { at: at as u16 })
 }

@@ -6,16 +6,17 @@ use Rattle.std.specs.Prelude.{◌≡◌, true, ℕ, ◌+◌, ◌≤◌, ◌<◌}
 use Rattle.std.proofs.Math.Path.{refl, ap}
 use Rattle.std.proofs.Common.{sym, ◌∙◌, arith}
 use mathlib.Core.List.{List, []}
-use Rattle.model.specs.declared.Admission.{Admission}
-use Rattle.model.specs.declared.Admission.TheVariants.{Admitted, Refused}
+use Rattle.model.specs.Refusal.{Admission}
+use Rattle.model.specs.Refusal.{Admitted, Refused}
 use Rattle.model.specs.Table.{row_of, source_of}
 use Rattle.model.specs.Header.{rows_at, row_bytes}
 use Rattle.model.specs.Refusal.{admission}
 use Rattle.model_laws.specs.AdmissionLaws.{sound_admitted, admitted_sound}
 use Rattle.door_step.specs.declared.RowReader.{RowReader}
-use Rattle.door_step.specs.declared.Step.TheVariants.{Row, End}
-use Rattle.door_step.specs.declared.Stepped.TheVariants as answer
-use Rattle.door_step.specs.Steps.{step_at, next_at, opened_part, steps_of, stepped, stepped_at}
+use Rattle.std.specs.declared.option.Option.TheVariants.{None, Some}
+use Rattle.model.specs.declared.Entry.{Entry}
+use Rattle.door_step.specs.Steps as answer
+use Rattle.door_step.specs.Steps.{entry_at, step_at, next_at, opened_part, steps_of, stepped, stepped_at}
 use Rattle.door_step.specs.StepLaws.{step_end, step_row, next_stays, next_moves, steps_rows, steps_end}
 
 rows_counted : (s : List ℕ) (a n : ℕ) → admission true s ≡ Admitted a n → n ≡ rows_at s
@@ -36,17 +37,17 @@ module _ (s : List ℕ) (r : RowReader) (whole : r.table.now ≡ opened_part (ad
     count_of = rows_counted s a n e
 
     -- rows 0 onward, each once
-    pub opened_rows : (i : ℕ) → i < n → steps_of r i ≡ Row (row_of (row_bytes s) i) (record { 0 = source_of (row_bytes s) i })
+    pub opened_rows : (i : ℕ) → i < n → steps_of r i ≡ Some (entry_at s i)
     opened_rows i l =
         let m : i < rows_at r.table.now = rw (all_of, ← count_of) l in
-        steps_rows i r start m ∙ ap (λ (t : List ℕ). Row (row_of (row_bytes t) i) (record { 0 = source_of (row_bytes t) i })) all_of
+        steps_rows i r start m ∙ ap (λ (t : List ℕ). Some (entry_at t i)) all_of
 
     -- then the end at every further call
-    pub opened_end : (i : ℕ) → n ≤ i → steps_of r i ≡ End
+    pub opened_end : (i : ℕ) → n ≤ i → steps_of r i ≡ None
     opened_end i l = steps_end i r start (rw (all_of, ← count_of) l)
 
   -- what a fill refuses isn't opened: it has no rows
-  pub refused_end : (k j : ℕ) → admission true s ≡ Refused k j → (i : ℕ) → steps_of r i ≡ End
+  pub refused_end : (k j : ℕ) → admission true s ≡ Refused k j → (i : ℕ) → steps_of r i ≡ None
   unfolding opened_part rows_at
   refused_end k j e i =
       let none : r.table.now ≡ [] = whole ∙ ap (λ (x : Admission). opened_part x s) e in

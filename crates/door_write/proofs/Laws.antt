@@ -11,26 +11,29 @@ use lib.Seq.{paste, length-paste, take-paste, take_all, ext_get_or, get_or-take}
 use borrow.Author.Tests.{eq-eqb, ne_eqb, le-leb, lt-leb, lt-ltb, le-ltb, leb-true}
 use Rattle.finite.specs.Logic.{split}
 use Rattle.finite.specs.Lists.{tabulate, length_tabulate, get_d_tabulate, Written, written_more, written_all}
-use Rattle.model.specs.declared.Admission.{Admission}
-use Rattle.model.specs.declared.Admission.TheVariants.{Admitted, Refused}
+use Rattle.model.specs.Refusal.{Admission}
+use Rattle.model.specs.Refusal.{Admitted, Refused}
 use Rattle.model.specs.declared.Refusal.{Refusal}
 use Rattle.model.specs.Limits.{AGENTS, ROWS, DEPENDENCIES}
-use Rattle.model.specs.Refusal.{admission, refusal_of, when_admitted}
+use Rattle.std.specs.declared.result.Result.{Result}
+use Rattle.std.specs.declared.result.Result.TheVariants.{Ok, Err}
+use Rattle.model.specs.Refusal.{refusal, admission, when_admitted}
+use Rattle.door_write.specs.declared.Sizes.{Sizes}
 use Rattle.model.specs.Table.{dependency_count}
 use Rattle.model.specs.Header.{HEADER, DEPENDENCY_BYTES, ROW_BYTES, version_at, agents_at, rows_at, places_of, dependency_bytes}
 use Rattle.model_laws.specs.AdmissionLaws.{Sound, sound_admitted, admitted_sound, agents_fit, rows_fit, dependencies_fit_lem}
-use Rattle.door_write.specs.declared.Entry.{Entry}
+use Rattle.model.specs.declared.Entry.{Entry}
 use Rattle.door_write.specs.declared.Dependencies.{Dependencies}
-use Rattle.door_write.specs.declared.WriteAnswer.{WriteAnswer}
-use Rattle.door_write.specs.declared.WriteAnswer.TheVariants as Answer
+use Rattle.door_write.specs.Answer.{WriteAnswer}
+use Rattle.door_write.specs.Answer as Answer
 use Rattle.door_write.specs.Encode.{half, with_hosts, places_size, dependencies_size, table_size, header_list, number_of, place_number, place_byte, row_list}
 use Rattle.door_write.specs.Encode.{nothing, entry_at, entry_byte, dependency_number, dependency_byte, places_part, rows_part, dependencies_part, encode}
 use Rattle.door_write.specs.Encode.{entries_in, entries_of, dependencies_of}
-use Rattle.door_write.specs.Answer.{values_fault, room_answer, write_answer, buffer_after}
+use Rattle.door_write.specs.Answer.{values_fault, room_answer, write_answer, write_result, buffer_after}
 use Rattle.door_write.specs.Parts.{PLACE_NUMBERS, capped, agents_in, places_in, rows_in, dependencies_in, parts_answer, parts_table}
-use Rattle.door_write.specs.declared.ReadAnswer.{ReadAnswer}
-use Rattle.door_write.specs.declared.ReadAnswer.TheVariants as Given
-use Rattle.door_write.specs.Read.{place_number_at, place_numbers, end_of, end_numbers, fronted, lent_fit, read_answer, places_after, rows_after, dependencies_after}
+use Rattle.door_write.specs.Read.{ReadAnswer}
+use Rattle.door_write.specs.Read as Given
+use Rattle.door_write.specs.Read.{place_number_at, place_numbers, end_of, end_numbers, fronted, lent_fit, read_answer, read_result, places_after, rows_after, dependencies_after}
 use Rattle.door_write.specs.ValueLaws.{Fits, places_most, after_most, size_most, header_length, encode_length, values_fit, agents_few, rows_few, after_few}
 
 -- ---- a byte of a number of two bytes
@@ -153,17 +156,18 @@ module _ (version agents : ℕ) (p : List (List ℕ)) (rows : ℕ) (l : List Ent
 
 -- ---- the answer and the buffer
 
-pub refused_both : (w : WriteAnswer) (k i : ℕ) (t o : List ℕ) → w ≡ Answer.Refused k i → (Answer.Refused k i ≡ w) × (o ≡ buffer_after w t o)
-unfolding buffer_after
-refused_both w k i t o e = (sym e, rw e refl)
+pub refused_both : (w : WriteAnswer) (k i : ℕ) (t o : List ℕ) → w ≡ Answer.Refused k i
+    → (Err (refusal k i) ≡ write_result w) × (o ≡ buffer_after w t o)
+unfolding buffer_after write_result
+refused_both w k i t o e = (rw e refl, rw e refl)
 
 pub written_both : (w : WriteAnswer) (n : ℕ) (t o u f : List ℕ) → w ≡ Answer.Written n → u ≡ paste o 0 f n → take n f ≡ t
-    → (Answer.Written n ≡ w) × (u ≡ buffer_after w t o)
-unfolding buffer_after
+    → (Ok n ≡ write_result w) × (u ≡ buffer_after w t o)
+unfolding buffer_after write_result
 written_both w n t o u f e g h =
     let z : 0 + n ≡ n = omega arith in
     let k : u ≡ t ++ drop n o = g ∙ ap (λ (x : List ℕ). x ++ take n f ++ drop (0 + n) o) (take_none o) ∙ rw (z, h) refl in
-    (sym e, rw e k)
+    (rw e refl, rw e k)
 
 module _ (version agents : ℕ) (p : List (List ℕ)) (rows : ℕ) (l : List Entry) (d : Dependencies) (room k : ℕ)
     (e : k ≡ values_fault version agents p rows d.count) where
@@ -193,12 +197,10 @@ module _ (version agents : ℕ) (p : List (List ℕ)) (rows : ℕ) (l : List Ent
 
 module _ (w : WriteAnswer) (a : Admission) (size room : ℕ) (e : w ≡ when_admitted Answer.Refused a (room_answer size room)) where
   -- a table that is refused
-  pub refused_out : (x : Refusal) (k i : ℕ) (t o : List ℕ) → x ≡ refusal_of a → a ≡ Refused k i
-      → (Answer.Refused x.number x.row ≡ w) × (o ≡ buffer_after w t o)
-  unfolding when_admitted refusal_of
-  refused_out x k i t o f q =
-      let v : w ≡ Answer.Refused k i = e ∙ ap (λ (y : Admission). when_admitted Answer.Refused y (room_answer size room)) q in
-      (rw (f, q) (sym v), (refused_both w k i t o v).1)
+  pub refused_out : (x : Refusal) (t o : List ℕ) → a ≡ Refused x.number x.row → (Err x ≡ write_result w) × (o ≡ buffer_after w t o)
+  unfolding when_admitted
+  refused_out x t o q =
+      refused_both w x.number x.row t o (e ∙ ap (λ (y : Admission). when_admitted Answer.Refused y (room_answer size room)) q)
 
   -- one that is admitted
   module _ (x n : ℕ) (q : a ≡ Admitted x n) where
@@ -235,10 +237,10 @@ module _ (version : ℕ) (P B Q : List ℕ) {a : ℕ} {p : List (List ℕ)} {n :
   unfolding parts_table
   table_same = rw (← agents_are, ← places_are, ← rows_are, ← entries_are, ← dependencies_are) refl
 
-  pub parts_out : (out u : List ℕ) (r : WriteAnswer) (room : ℕ)
-      → (r ≡ write_answer version a p n l d room) × (u ≡ buffer_after (write_answer version a p n l d room) (encode version a p n l d) out)
-      → (r ≡ parts_answer version P B Q room) × (u ≡ buffer_after (parts_answer version P B Q room) (parts_table version P B Q) out)
-  parts_out out u r room h = (h.0 ∙ answer_same room, h.1 ∙ ap₂ (λ (x : WriteAnswer) (y : List ℕ). buffer_after x y out) (answer_same room) table_same)
+  pub parts_out : (out u : List ℕ) (r : Result ℕ Refusal) (room : ℕ)
+      → (r ≡ write_result (write_answer version a p n l d room)) × (u ≡ buffer_after (write_answer version a p n l d room) (encode version a p n l d) out)
+      → (r ≡ write_result (parts_answer version P B Q room)) × (u ≡ buffer_after (parts_answer version P B Q room) (parts_table version P B Q) out)
+  parts_out out u r room h = (h.0 ∙ ap write_result (answer_same room), h.1 ∙ ap₂ (λ (x : WriteAnswer) (y : List ℕ). buffer_after x y out) (answer_same room) table_same)
 
 -- ---- values into lent parts
 
@@ -278,10 +280,9 @@ module _ (s : List ℕ) (P B D : ℕ) where
   parts_short h = rw h refl
 
   -- a table that is refused
-  pub table_refused : (a : Admission) (x : Refusal) (k i : ℕ) → lent_fit P B D ≡ true → a ≡ admission true s → a ≡ Refused k i → x ≡ refusal_of a
-      → read_answer s P B D ≡ Given.Refused x.number x.row
-  unfolding read_answer when_admitted refusal_of
-  table_refused a x k i fit e q f = rw (fit, ← e, f, q) refl
+  pub table_refused : (k i : ℕ) → lent_fit P B D ≡ true → admission true s ≡ Refused k i → read_answer s P B D ≡ Given.Refused k i
+  unfolding read_answer when_admitted
+  table_refused k i fit q = rw (fit, q) refl
 
   -- one that is admitted
   module _ (fit : lent_fit P B D ≡ true) (a : Admission) (x n : ℕ) (e : a ≡ admission true s) (q : a ≡ Admitted x n) where
@@ -339,13 +340,16 @@ module _ (s : List ℕ) (P B D : ℕ) where
       read_is v g = rw (fit, ← e, q, g, agents_are, rows_are, count_is) refl
 
 pub given_refused : (w : ReadAnswer) (k i : ℕ) (s p b d : List ℕ) → w ≡ Given.Refused k i
-    → (Given.Refused k i ≡ w) × (p ≡ places_after w s p) × (b ≡ rows_after w s b) × (d ≡ dependencies_after w s d)
-unfolding places_after rows_after dependencies_after
-given_refused w k i s p b d e = (sym e, rw e refl, rw e refl, rw e refl)
+    → (Err (refusal k i) ≡ read_result w) × (p ≡ places_after w s p) × (b ≡ rows_after w s b) × (d ≡ dependencies_after w s d)
+unfolding places_after rows_after dependencies_after read_result
+given_refused w k i s p b d e = (rw e refl, rw e refl, rw e refl, rw e refl)
+
+abbrev pub sizes : ℕ → ℕ → ℕ → ℕ → Sizes
+sizes v x n m = record { version = v; agents = x; rows = n; dependencies = m }
 
 pub given_read : (w : ReadAnswer) (v x n m : ℕ) (s p p' b b' c c' : List ℕ) (q : List (List ℕ)) (l : List Entry) (d : Dependencies)
     → w ≡ Given.Read v x n m → q ≡ places_of s → l ≡ entries_of s → d ≡ dependencies_of s
     → p' ≡ fronted (place_numbers q x) p → b' ≡ fronted (rows_part n l) b → c' ≡ fronted (end_numbers d) c
-    → (Given.Read v x n m ≡ w) × (p' ≡ places_after w s p) × (b' ≡ rows_after w s b) × (c' ≡ dependencies_after w s c)
-unfolding places_after rows_after dependencies_after
-given_read w v x n m s p p' b b' c c' q l d e f g h i j k = (sym e, rw (e, ← f) i, rw (e, ← g) j, rw (e, ← h) k)
+    → (Ok (sizes v x n m) ≡ read_result w) × (p' ≡ places_after w s p) × (b' ≡ rows_after w s b) × (c' ≡ dependencies_after w s c)
+unfolding places_after rows_after dependencies_after read_result
+given_read w v x n m s p p' b b' c c' q l d e f g h i j k = (rw e refl, rw (e, ← f) i, rw (e, ← g) j, rw (e, ← h) k)

@@ -5,12 +5,21 @@ use Rattle.finite.specs.Below.{any_below}
 use Rattle.model.specs.Limits.{AGENTS, ROWS, DEPENDENCIES}
 use Rattle.model.specs.Scope.{SHADER, QUEUE, agent_kind}
 use Rattle.model.specs.Header.{VERSION_PLAIN, VERSION_HOSTS}
-use Rattle.model.specs.Refusal.{admission, when_admitted}
-use Rattle.door_write.specs.declared.Entry.{Entry}
+use Rattle.std.specs.declared.result.Result.{Result}
+use Rattle.std.specs.declared.result.Result.TheVariants.{Ok, Err}
+use Rattle.model.specs.declared.Refusal.{Refusal}
+use Rattle.model.specs.Refusal.{refusal, admission, when_admitted}
+use Rattle.model.specs.declared.Entry.{Entry}
 use Rattle.door_write.specs.declared.Dependencies.{Dependencies}
-use Rattle.door_write.specs.declared.WriteAnswer.{WriteAnswer}
-use Rattle.door_write.specs.declared.WriteAnswer.TheVariants as Answer
 use Rattle.door_write.specs.Encode.{with_hosts, table_size, encode}
+
+-- ---- the answer
+
+pub data WriteAnswer : Type 0 where
+  -- number and row
+  Refused : ℕ → ℕ → WriteAnswer
+  -- how many bytes
+  Written : ℕ → WriteAnswer
 
 -- ---- 2, 3, 16, 17: values that no bytes are made of
 
@@ -42,15 +51,20 @@ values_fault version agents p rows n =
 
 -- 13
 unfoldable pub room_answer : ℕ → ℕ → WriteAnswer
-room_answer size room = cond (leb size room) (Answer.Written size) (Answer.Refused 13 0)
+room_answer size room = cond (leb size room) (Written size) (Refused 13 0)
 
 unfoldable pub write_answer : ℕ → ℕ → List (List ℕ) → ℕ → List Entry → Dependencies → ℕ → WriteAnswer
 write_answer version agents p rows l d room =
     cond (eqb (values_fault version agents p rows d.count) 0)
-    (when_admitted Answer.Refused (admission true (encode version agents p rows l d)) (room_answer (table_size version agents rows d.count) room))
-    (Answer.Refused (values_fault version agents p rows d.count) 0)
+    (when_admitted Refused (admission true (encode version agents p rows l d)) (room_answer (table_size version agents rows d.count) room))
+    (Refused (values_fault version agents p rows d.count) 0)
 
 -- the buffer: the table, then what was there; untouched where the writing is refused
 unfoldable pub buffer_after : WriteAnswer → List ℕ → List ℕ → List ℕ
-buffer_after (Answer.Written n) t out = t ++ drop n out
-buffer_after (Answer.Refused k i) t out = out
+buffer_after (Written n) t out = t ++ drop n out
+buffer_after (Refused k i) t out = out
+
+-- the bytes that are written, else the refusal, as a program has them
+unfoldable pub write_result : WriteAnswer → Result ℕ Refusal
+write_result (Refused k i) = Err (refusal k i)
+write_result (Written n) = Ok n

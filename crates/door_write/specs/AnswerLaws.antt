@@ -5,8 +5,8 @@ use Rattle.std.proofs.Common.{sym, ap, ◌∙◌, subst, inl, inr, ⊎_elim, ari
 use Rattle.std.proofs.lemmas.Bool.{eqb-false, lt-leb}
 use Rattle.finite.specs.Logic.{◌and◌, ◌or◌, which, not_both, not_out, or_cases}
 use Rattle.finite.specs.Below.{least, least_is}
-use Rattle.model.specs.declared.Admission.{Admission}
-use Rattle.model.specs.declared.Admission.TheVariants.{Admitted, Refused}
+use Rattle.model.specs.Refusal.{Admission}
+use Rattle.model.specs.Refusal.{Admitted, Refused}
 use Rattle.model.specs.declared.Row.{Row}
 use Rattle.model.specs.Scope.{agent_kind}
 use Rattle.model.specs.Table.{row_of, source_of, table_of, sources_of, Table}
@@ -17,10 +17,10 @@ use Rattle.model.specs.Refusal.{faulty, first_fault, row_fault_at, header_fault,
 use Rattle.model.specs.TableFault.{instance_broken, unfit, table_fault}
 use Rattle.model.specs.Row.{operation}
 use Rattle.model_laws.specs.AdmissionLaws.{not_admitted}
-use Rattle.door_write.specs.declared.Entry.{Entry}
+use Rattle.model.specs.declared.Entry.{Entry}
 use Rattle.door_write.specs.declared.Dependencies.{Dependencies}
-use Rattle.door_write.specs.declared.WriteAnswer.{WriteAnswer}
-use Rattle.door_write.specs.declared.WriteAnswer.TheVariants as Answer
+use Rattle.door_write.specs.Answer.{WriteAnswer}
+use Rattle.door_write.specs.Answer as Answer
 use Rattle.door_write.specs.Encode.{table_size, encode}
 use Rattle.door_write.specs.Answer.{version_known, counts_fit, numbers_fit, dependencies_fit, values_fault, room_answer, write_answer}
 

@@ -16,15 +16,15 @@ use Rattle.model.specs.Header.{ROW_BYTES, version_at, agents_at, rows_at, has_ho
 use Rattle.model.specs.Table.{dependency_count, dependency_from, dependency_to}
 use Rattle.model.specs.Header.{dependency_bytes}
 use Rattle.model_laws.specs.FilledLaws.{Bytes}
-use Rattle.model.specs.declared.Admission.{Admission}
-use Rattle.model.specs.declared.Admission.TheVariants.{Admitted, Refused}
+use Rattle.model.specs.Refusal.{Admission}
+use Rattle.model.specs.Refusal.{Admitted, Refused}
 use Rattle.model.specs.Refusal.{admission, when_admitted}
 use Rattle.model_laws.specs.AdmissionLaws.{Sound, sound_admitted, admitted_sound, agents_fit, rows_fit, dependencies_fit_lem}
 use Rattle.door_write.specs.declared.Dependencies.{Dependencies}
 use Rattle.door_write.specs.Encode.{number_of, rows_part, encode, entries_in, entries_of, dependencies_of}
 use Rattle.door_write.specs.Parts.{PLACE_NUMBERS, capped, agents_in, place_in, places_in, rows_in, end_in, dependencies_in, parts_answer, parts_table}
-use Rattle.door_write.specs.declared.ReadAnswer.{ReadAnswer}
-use Rattle.door_write.specs.declared.ReadAnswer.TheVariants as Given
+use Rattle.door_write.specs.Read.{ReadAnswer}
+use Rattle.door_write.specs.Read as Given
 use Rattle.door_write.specs.Read.{place_number_at, place_numbers, end_of, end_numbers, fronted, lent_fit, read_answer, places_after, rows_after, dependencies_after}
 use Rattle.door_write.specs.ValueLaws.{Fits, agents_few, rows_few, after_few, rows_length}
 use Rattle.door_write.specs.EncodeLaws.{Typed, four_of, encode_part, encode_slot, encode_count, encode_from, encode_to}

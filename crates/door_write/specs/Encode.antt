@@ -6,7 +6,7 @@ use Rattle.model.specs.Limits.{ROWS, DEPENDENCIES}
 use Rattle.model.specs.Table.{row_of, source_of}
 use Rattle.model.specs.Header.{HEADER, VERSION_HOSTS, PLACE_BYTES, HOSTS_PLACE_BYTES, DEPENDENCY_BYTES, ROW_BYTES, row_bytes, dependency_bytes}
 use Rattle.model.specs.Table.{dependency_count, dependency_from, dependency_to}
-use Rattle.door_write.specs.declared.Entry.{Entry}
+use Rattle.model.specs.declared.Entry.{Entry}
 use Rattle.door_write.specs.declared.Dependencies.{Dependencies}
 
 -- byte k of numbers of two bytes, of which v is the one that it belongs to: big-endian

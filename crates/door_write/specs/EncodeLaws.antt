@@ -21,7 +21,7 @@ use Rattle.model.specs.Header.{dependency_bytes}
 use Rattle.model.specs.Table.{dependency_to}
 use Rattle.model.specs.Refusal.{shape_or}
 use Rattle.model.specs.Refusal.{version_fits, limits_fit, length_fits, kind_over, agents_known, dependencies_few, dependencies_named, hosts_fault, header_fault}
-use Rattle.door_write.specs.declared.Entry.{Entry}
+use Rattle.model.specs.declared.Entry.{Entry}
 use Rattle.door_write.specs.declared.Dependencies.{Dependencies}
 use Rattle.door_write.specs.Encode.{half, with_hosts, places_size, dependencies_size, table_size, header_list, number_of, place_number, place_byte, row_list}
 use Rattle.door_write.specs.Encode.{entry_at, entry_byte, dependency_number, dependency_byte, places_part, rows_part, dependencies_part, encode}

@@ -5,7 +5,7 @@ use Rattle.finite.specs.Lists.{tabulate}
 use Rattle.model.specs.Limits.{AGENTS, DEPENDENCIES}
 use Rattle.model.specs.Header.{ROW_BYTES}
 use Rattle.door_write.specs.declared.Dependencies.{Dependencies}
-use Rattle.door_write.specs.declared.WriteAnswer.{WriteAnswer}
+use Rattle.door_write.specs.Answer.{WriteAnswer}
 use Rattle.door_write.specs.Encode.{entries_in, encode}
 use Rattle.door_write.specs.Answer.{write_answer}
 

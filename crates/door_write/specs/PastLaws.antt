@@ -11,7 +11,7 @@ use Rattle.finite.specs.Below.{any_cong}
 use Rattle.finite.specs.Lists.{tabulate, tabulate_cong}
 use Rattle.model.specs.Scope.{agent_kind}
 use Rattle.model.specs.Header.{PLACE_BYTES, HOSTS_PLACE_BYTES, DEPENDENCY_BYTES, ROW_BYTES}
-use Rattle.door_write.specs.declared.Entry.{Entry}
+use Rattle.model.specs.declared.Entry.{Entry}
 use Rattle.door_write.specs.declared.Dependencies.{Dependencies}
 use Rattle.door_write.specs.Encode.{half, with_hosts, places_size, dependencies_size, number_of, place_number, place_byte, entry_at, entry_byte}
 use Rattle.door_write.specs.Encode.{dependency_number, dependency_byte, places_part, rows_part, dependencies_part, encode}

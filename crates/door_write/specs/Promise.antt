@@ -11,8 +11,8 @@ use Rattle.std.proofs.Math.Decide.{dec_lt}
 use Rattle.std.proofs.Math.ListN.{take}
 use Rattle.std.proofs.Math.Seq.{drop_at}
 use Rattle.finite.specs.Logic.{◌and◌, ◌or◌, which, not_both}
-use Rattle.model.specs.declared.Admission.{Admission}
-use Rattle.model.specs.declared.Admission.TheVariants.{Admitted, Refused}
+use Rattle.model.specs.Refusal.{Admission}
+use Rattle.model.specs.Refusal.{Admitted, Refused}
 use Rattle.model.specs.Limits.{ROWS}
 use Rattle.model.specs.Table.{row_of, source_of, sources_of, dependency_count}
 use Rattle.model.specs.Header.{ROW_BYTES, version_at, agents_at, rows_at, place_at, places_of, row_bytes, dependency_bytes}
@@ -20,9 +20,9 @@ use Rattle.model.specs.Table.{dependency_from, dependency_to}
 use Rattle.model.specs.Refusal.{dependencies_named, header_fault, admission}
 use Rattle.model_laws.specs.FilledLaws.{Bytes}
 use Rattle.model_laws.specs.AdmissionLaws.{Sound, sound_admitted, admitted_sound}
-use Rattle.door_write.specs.declared.Entry.{Entry}
+use Rattle.model.specs.declared.Entry.{Entry}
 use Rattle.door_write.specs.declared.Dependencies.{Dependencies}
-use Rattle.door_write.specs.declared.WriteAnswer.TheVariants as Answer
+use Rattle.door_write.specs.Answer as Answer
 use Rattle.door_write.specs.Encode.{row_list, entry_at, table_size, rows_part, encode, entries_in, entries_of, dependencies_of}
 use Rattle.door_write.specs.Parts.{PLACE_NUMBERS, capped, agents_in, places_in, rows_in, dependencies_in, parts_answer, parts_table}
 use Rattle.door_write.specs.PartsLaws.{Numbers, parts_typed}
@@ -34,8 +34,8 @@ use Rattle.door_write.specs.ReadLaws.{rows_same, length_same, read_fits, row_aga
 use Rattle.door_write.specs.AnswerLaws.{of_table, Admits, admission_number, room_short, room_long, values_in, table_in_lem, admitted_in, written_out}
 use Rattle.door_write.specs.AnswerLaws.{refused_out, fault_apart, fault_version, fault_limits, fault_numbers, fault_dependencies}
 use Rattle.door_write.specs.PastLaws.{Alike, encode_alike, answer_alike}
-use Rattle.door_write.specs.declared.ReadAnswer.{ReadAnswer}
-use Rattle.door_write.specs.declared.ReadAnswer.TheVariants as Given
+use Rattle.door_write.specs.Read.{ReadAnswer}
+use Rattle.door_write.specs.Read as Given
 use Rattle.door_write.specs.Read.{place_numbers, end_numbers, lent_fit, read_answer, places_after, rows_after, dependencies_after}
 use Rattle.door_write.specs.BackLaws.{given_out, given_in, places_after_lem, rows_after_lem, dependencies_after_lem, fronted_front, fronted_rest, numbers_long}
 use Rattle.door_write.specs.BackLaws.{ends_long, rows_given, table_again, answer_again, places_back, rows_back, count_back, ends_back}

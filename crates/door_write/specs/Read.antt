@@ -5,10 +5,12 @@ use Rattle.finite.specs.Lists.{tabulate}
 use Rattle.model.specs.Limits.{AGENTS, ROWS, DEPENDENCIES}
 use Rattle.model.specs.Table.{dependency_count}
 use Rattle.model.specs.Header.{ROW_BYTES, version_at, agents_at, rows_at, places_of, dependency_bytes}
-use Rattle.model.specs.Refusal.{admission, when_admitted}
+use Rattle.std.specs.declared.result.Result.{Result}
+use Rattle.std.specs.declared.result.Result.TheVariants.{Ok, Err}
+use Rattle.model.specs.declared.Refusal.{Refusal}
+use Rattle.model.specs.Refusal.{refusal, admission, when_admitted}
 use Rattle.door_write.specs.declared.Dependencies.{Dependencies}
-use Rattle.door_write.specs.declared.ReadAnswer.{ReadAnswer}
-use Rattle.door_write.specs.declared.ReadAnswer.TheVariants as Answer
+use Rattle.door_write.specs.declared.Sizes.{Sizes}
 use Rattle.door_write.specs.Encode.{number_of, rows_part, entries_of, dependencies_of}
 use Rattle.door_write.specs.Parts.{PLACE_NUMBERS}
 
@@ -34,25 +36,37 @@ fronted l out = l ++ drop (length l) out
 
 -- ---- the answer: 11 where a part is too short for some table; what a fill refuses; else the version and the three counts
 
+pub data ReadAnswer : Type 0 where
+  -- number and row
+  Refused : ℕ → ℕ → ReadAnswer
+  -- version, agents, rows, dependencies
+  Read : ℕ → ℕ → ℕ → ℕ → ReadAnswer
+
 unfoldable pub lent_fit : ℕ → ℕ → ℕ → Bool
 lent_fit places rows dependencies = leb (PLACE_NUMBERS * AGENTS) places and leb (ROW_BYTES * ROWS) rows and leb (2 * DEPENDENCIES) dependencies
 
 unfoldable pub read_answer : List ℕ → ℕ → ℕ → ℕ → ReadAnswer
 read_answer s places rows dependencies =
     cond (lent_fit places rows dependencies)
-    (when_admitted Answer.Refused (admission true s) (Answer.Read (version_at s) (agents_at s) (rows_at s) (dependency_count (dependency_bytes s))))
-    (Answer.Refused 11 0)
+    (when_admitted Refused (admission true s) (Read (version_at s) (agents_at s) (rows_at s) (dependency_count (dependency_bytes s))))
+    (Refused 11 0)
 
 -- ---- the lent parts: untouched where the reading is refused
 
 unfoldable pub places_after : ReadAnswer → List ℕ → List ℕ → List ℕ
-places_after (Answer.Read version agents rows n) s out = fronted (place_numbers (places_of s) agents) out
-places_after (Answer.Refused k i) s out = out
+places_after (Read version agents rows n) s out = fronted (place_numbers (places_of s) agents) out
+places_after (Refused k i) s out = out
 
 unfoldable pub rows_after : ReadAnswer → List ℕ → List ℕ → List ℕ
-rows_after (Answer.Read version agents rows n) s out = fronted (rows_part rows (entries_of s)) out
-rows_after (Answer.Refused k i) s out = out
+rows_after (Read version agents rows n) s out = fronted (rows_part rows (entries_of s)) out
+rows_after (Refused k i) s out = out
 
 unfoldable pub dependencies_after : ReadAnswer → List ℕ → List ℕ → List ℕ
-dependencies_after (Answer.Read version agents rows n) s out = fronted (end_numbers (dependencies_of s)) out
-dependencies_after (Answer.Refused k i) s out = out
+dependencies_after (Read version agents rows n) s out = fronted (end_numbers (dependencies_of s)) out
+dependencies_after (Refused k i) s out = out
+
+-- ---- what comes back: the version and the counts, else the refusal, as a program has them
+
+unfoldable pub read_result : ReadAnswer → Result Sizes Refusal
+read_result (Refused k i) = Err (refusal k i)
+read_result (Read v a n m) = Ok (record { version = v; agents = a; rows = n; dependencies = m })

@@ -12,7 +12,7 @@ use Rattle.finite.specs.Lists.{length_tabulate}
 use Rattle.model.specs.Limits.{AGENTS, ROWS, DEPENDENCIES}
 use Rattle.model.specs.Scope.{SHADER, QUEUE, agent_kind}
 use Rattle.model.specs.Header.{HEADER, VERSION_PLAIN, VERSION_HOSTS, PLACE_BYTES, HOSTS_PLACE_BYTES, DEPENDENCY_BYTES, ROW_BYTES}
-use Rattle.door_write.specs.declared.Entry.{Entry}
+use Rattle.model.specs.declared.Entry.{Entry}
 use Rattle.door_write.specs.declared.Dependencies.{Dependencies}
 use Rattle.door_write.specs.Encode.{with_hosts, places_size, dependencies_size, table_size, header_list, place_byte, entry_byte, dependency_byte, places_part}
 use Rattle.door_write.specs.Encode.{rows_part, dependencies_part, encode}

@@ -4,9 +4,9 @@ ghost use Rattle.finite.specs.Lists.{tabulate};
 ghost use Rattle.door_write.specs.Encode.{half, with_hosts, places_size, dependencies_size, table_size, header_list, number_of, place_number, place_byte};
 ghost use Rattle.door_write.specs.Encode.{row_list, entry_byte, dependency_number, dependency_byte, encode};
 
-use crate::{Dependencies, Entry};
+use crate::Dependencies;
 use door_rows::bytes;
-use model::{Places, Row, Source};
+use model::{Entry, Places, Row, Source};
 
 // The most bytes of places, rows and dependencies, and of a table.
 pub const PLACES: usize = 256;

@@ -4,21 +4,14 @@
 ghost use Rattle.std.specs.Prelude.{◌≡◌, length};
 ghost use Rattle.finite.specs.Below.{any_below};
 ghost use Rattle.door_write.specs.Encode.{encode};
-ghost use Rattle.door_write.specs.Answer.{version_known, counts_fit, number_over, dependencies_fit, values_fault, write_answer, buffer_after};
+ghost use Rattle.door_write.specs.Answer.{version_known, counts_fit, number_over, dependencies_fit, values_fault, write_answer, write_result, buffer_after};
 
 use door_rows::{bytes, pick, scopes};
-use model::{Admission, Places, Row, Source};
+use model::{Entry, Places, Refusal};
 
 pub mod encode; // the bytes of a table
 pub mod parts; // values out of lent parts
 pub mod read; // the values of a table
-
-// A row with its source.
-#[derive(Clone, Copy)]
-pub struct Entry {
-    pub row: Row,
-    pub source: Source,
-}
 
 // How many dependencies there are, and the two rows of each.
 #[derive(Clone, Copy)]
@@ -28,24 +21,13 @@ pub struct Dependencies {
     pub second: [u16; 64],
 }
 
+// The version of a table, and how many agents, rows and dependencies it has.
 #[derive(Clone, Copy)]
-pub enum WriteAnswer {
-    Refused { number: u8, row: u16 },
-    Written { bytes: u16 },
-}
-
-#[derive(Clone, Copy)]
-pub enum ReadAnswer {
-    Refused {
-        number: u8,
-        row: u16,
-    },
-    Read {
-        version: u8,
-        agents: u8,
-        rows: u8,
-        dependencies: u16,
-    },
+pub struct Sizes {
+    pub version: u8,
+    pub agents: u8,
+    pub rows: u8,
+    pub dependencies: u16,
 }
 
 // ---- values that no bytes are made of
@@ -110,7 +92,8 @@ fn values_fault(version: u8, agents: u8, p: Places, rows: u8, n: u16) -> u8
 
 // ---- writing
 
-// Writes the table of these values, of which those past their counts don't matter. A fill admits what is written.
+// Writes the table of these values, of which those past their counts don't matter, and gives how many bytes it has. A fill admits what is
+// written.
 // Ruled out: one that writes a part of the table before it refuses; one that clears the buffer after the table; one that refuses
 // a blank, or a short buffer before what is wrong with a row.
 pub fn write(
@@ -121,30 +104,23 @@ pub fn write(
     entries: [Entry; 128],
     d: Dependencies,
     out: &mut [u8],
-) -> WriteAnswer
+) -> Result<u16, Refusal>
     ensures { let answer = write_answer version agents p count entries d (length out.old) in
-        (result ≡ answer) × (out.new ≡ buffer_after answer (encode version agents p count entries d) out.old) }
+        (result ≡ write_result answer) × (out.new ≡ buffer_after answer (encode version agents p count entries d) out.old) }
 {
     let fault = values_fault(version, agents, p, count, d.count);
     if fault != 0 {
-        return WriteAnswer::Refused {
+        return Err(Refusal {
             number: fault,
             row: 0,
-        };
+        });
     }
     let t = encode::encode_table(version, agents, p, count, entries, d);
     let size = encode::table_size(version, agents, count, d.count);
-    let a = door_admit::admit(&t[..size], true);
-    let Admission::Admitted { agents: _, rows: _ } = a else {
-        let x = model::refusal_of(a);
-        return WriteAnswer::Refused {
-            number: x.number,
-            row: x.row,
-        };
-    };
+    door_admit::admit(&t[..size], true)?;
     if out.len() < size {
-        return WriteAnswer::Refused { number: 13, row: 0 };
+        return Err(Refusal { number: 13, row: 0 });
     }
     bytes::put(out, 0, &t, size);
-    WriteAnswer::Written { bytes: size as u16 }
+    Ok(size as u16)
 }

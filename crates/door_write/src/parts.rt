@@ -3,12 +3,12 @@
 ghost use Rattle.std.specs.Prelude.{◌≡◌, ◌<◌, ◌≤◌, length, get_or};
 ghost use Rattle.finite.specs.Lists.{tabulate};
 ghost use Rattle.model.specs.Limits.{AGENTS, DEPENDENCIES};
-ghost use Rattle.door_write.specs.Answer.{buffer_after};
+ghost use Rattle.door_write.specs.Answer.{write_result, buffer_after};
 ghost use Rattle.door_write.specs.Parts.{capped, agents_in, place_in, places_in, rows_in, end_in, dependencies_in, parts_answer, parts_table};
 
-use crate::{Dependencies, WriteAnswer, read};
+use crate::{Dependencies, read};
 use door_rows::bytes;
-use model::Places;
+use model::{Places, Refusal};
 
 pub const PLACE_NUMBERS: usize = 4;
 
@@ -77,10 +77,10 @@ pub fn write_parts(
     rows: &[u8],
     dependencies: &[u16],
     out: &mut [u8],
-) -> WriteAnswer
+) -> Result<u16, Refusal>
     ensures { let answer = parts_answer version places.now rows.now dependencies.now (length out.old) in
         let table = parts_table version places.now rows.now dependencies.now in
-        (result ≡ answer) × (out.new ≡ buffer_after answer table out.old) }
+        (result ≡ write_result answer) × (out.new ≡ buffer_after answer table out.old) }
 {
     let agents = agents_in(places);
     let p = places_in(places);

@@ -4,11 +4,11 @@ ghost use Rattle.model.specs.Limits.{ROWS, DEPENDENCIES};
 ghost use Rattle.model.specs.Header.{ROW_BYTES};
 ghost use Rattle.door_write.specs.Encode.{entry_of, entries_in, entries_of, dependencies_of, rows_part};
 ghost use Rattle.door_write.specs.Parts.{PLACE_NUMBERS};
-ghost use Rattle.door_write.specs.Read.{fronted, place_numbers, end_of, end_numbers, lent_fit, read_answer, places_after, rows_after, dependencies_after};
+ghost use Rattle.door_write.specs.Read.{fronted, place_numbers, end_of, end_numbers, lent_fit, read_answer, read_result, places_after, rows_after, dependencies_after};
 
-use crate::{Dependencies, Entry, ReadAnswer, encode, parts};
+use crate::{Dependencies, Sizes, encode, parts};
 use door_rows::{bytes, scopes};
-use model::{Admission, Places};
+use model::{Entry, Places, Refusal};
 
 fn read_entry(rows: &[u8], i: u16) -> Entry
     ensures { result ≡ entry_of rows.now i }
@@ -111,33 +111,26 @@ pub fn read_parts(
     places: &mut [u16],
     rows: &mut [u8],
     dependencies: &mut [u16],
-) -> ReadAnswer
+) -> Result<Sizes, Refusal>
     ensures { let s = table.now in
         let answer = read_answer s (length places.old) (length rows.old) (length dependencies.old) in
-        (result ≡ answer)
+        (result ≡ read_result answer)
         × (places.new ≡ places_after answer s places.old)
         × (rows.new ≡ rows_after answer s rows.old)
         × (dependencies.new ≡ dependencies_after answer s dependencies.old) }
 {
     if !lent_fit(places.len(), rows.len(), dependencies.len()) {
-        return ReadAnswer::Refused { number: 11, row: 0 };
+        return Err(Refusal { number: 11, row: 0 });
     }
-    let a = door_admit::admit(table, true);
-    let Admission::Admitted { agents, rows: n } = a else {
-        let x = model::refusal_of(a);
-        return ReadAnswer::Refused {
-            number: x.number,
-            row: x.row,
-        };
-    };
+    let counts = door_admit::admit(table, true)?;
     let d = read_dependencies(table);
-    put_places(places, scopes::read_places(table), agents);
-    put_entries(rows, read_entries(table), n);
+    put_places(places, scopes::read_places(table), counts.agents);
+    put_entries(rows, read_entries(table), counts.rows);
     put_ends(dependencies, d);
-    ReadAnswer::Read {
+    Ok(Sizes {
         version: bytes::byte_at(table, 4),
-        agents: agents,
-        rows: n,
+        agents: counts.agents,
+        rows: counts.rows,
         dependencies: d.count,
-    }
+    })
 }

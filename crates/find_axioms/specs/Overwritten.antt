@@ -14,10 +14,15 @@ use Rattle.model.specs.Race.{nth}
 use Rattle.model.specs.Edge.{overwrites, overwrites_nth, over_nth, overwriting, over_writer, is_overwritten, over_reader, over_byte}
 use Rattle.model_laws.specs.PairLaws.{inside_out, common_out}
 use Rattle.find_race.specs.Bytes.{Bounded}
-use Rattle.find_axioms.specs.declared.overwritten.Overwrite.{Overwrite}
-use Rattle.find_axioms.specs.declared.overwritten.Overwrite.TheVariants.{At, Nothing}
+use Rattle.std.specs.declared.option.Option.{Option}
+use Rattle.std.specs.declared.option.Option.TheVariants.{None, Some}
+use Rattle.model.specs.declared.Overwritten.{Overwritten}
 
 -- ---- definitions
+
+-- the reader y and the writer z, with the byte b
+abbrev pub over_at : ℕ → ℕ → ℕ → Option Overwritten
+over_at y z b = Some (record { reader = y; writer = z; byte = b })
 
 module _ (t : Table) (source : ℕ → ℕ) where
   -- y reads, z writes, and y's source is a row
@@ -25,11 +30,11 @@ module _ (t : Table) (source : ℕ → ℕ) where
   may_overwrite y z = reads (t.row y) and writes (t.row z) and ltb (source y) t.rows
 
   -- the reader y, the writer z and their byte, where y is a row
-  unfoldable pub overwrite_of : ℕ → ℕ → Overwrite
-  overwrite_of y z = cond (ltb y t.rows) (At y z (over_byte t source y z)) Nothing
+  unfoldable pub overwrite_of : ℕ → ℕ → Option Overwritten
+  overwrite_of y z = cond (ltb y t.rows) (over_at y z (over_byte t source y z)) None
 
   -- the first break of axiom B
-  unfoldable pub found_overwrite : Overwrite
+  unfoldable pub found_overwrite : Option Overwritten
   found_overwrite = overwrite_of (over_reader t source) (over_writer t source (over_reader t source))
 
   -- ---- laws: a byte
@@ -72,13 +77,13 @@ module _ (t : Table) (source : ℕ → ℕ) where
 
   -- ---- laws: what is shown
 
-  pub shown_none : (y n : ℕ) → n ≡ t.rows → y ≡ over_reader t source → n ≤ y → ◌≡◌ {A = Overwrite} Nothing found_overwrite
+  pub shown_none : (y n : ℕ) → n ≡ t.rows → y ≡ over_reader t source → n ≤ y → ◌≡◌ {A = Option Overwritten} None found_overwrite
   unfolding found_overwrite overwrite_of
   shown_none y n q e l = rw (← e, ← q, le-ltb y n l) refl
 
   pub shown_at : (y z k b n : ℕ) → n ≡ t.rows → y ≡ over_reader t source → z ≡ over_writer t source y → k ≡ over_nth t source y z
       → b ≡ (t.row y).start + k → y < n
-      → ◌≡◌ {A = Overwrite} (At y z b) found_overwrite
+      → ◌≡◌ {A = Option Overwritten} (over_at y z b) found_overwrite
   unfolding found_overwrite overwrite_of over_byte
   shown_at y z k b n rows_are reader_is writer_is nth_is byte_is below = rw (← reader_is, ← writer_is, ← nth_is, ← rows_are, lt-ltb y n below, byte_is) refl
 

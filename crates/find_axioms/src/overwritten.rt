@@ -7,6 +7,7 @@ ghost use Rattle.find_race.specs.Bytes.{Ready, Bounded};
 ghost use Rattle.find_axioms.specs.Sources.{source_in};
 ghost use Rattle.find_axioms.specs.Overwritten.{found_overwrite};
 
+use model::Overwritten;
 use run::Run;
 
 // Axiom B: which of y's bytes is the lowest that z overwrites, and PAIR where none is.
@@ -59,28 +60,22 @@ pub fn over_reader(t: &Run, n: usize, src: &[u16], w: &[u64]) -> usize
     n
 }
 
-#[derive(Clone, Copy)]
-pub enum Overwrite {
-    At { reader: u16, writer: u16, byte: u16 },
-    Nothing,
-}
-
 // Axiom B: the reader, writer and byte that break it, least in that order.
 // Ruled out: one that shows the source where the writer must stand; one that shows the byte as counted from the reader's start.
-pub fn first_overwrite(t: &Run, n: usize, src: &[u16], w: &[u64]) -> Overwrite
+pub fn first_overwrite(t: &Run, n: usize, src: &[u16], w: &[u64]) -> Option<Overwritten>
     requires { (n ≤ length src.now) × Bounded (table_in t.now n) × Ready (table_in t.now n) n w.now }
     ensures { result ≡ found_overwrite (table_in t.now n) (source_in src.now) }
 {
     let y = over_reader(t, n, src, w);
     if n <= y {
-        return Overwrite::Nothing;
+        return None;
     }
     let z = over_writer(t, n, src, y, w);
     let k = over_nth(t, n, src, y, z, w);
     let r = run::row(t, y as u16);
-    Overwrite::At {
+    Some(Overwritten {
         reader: y as u16,
         writer: z as u16,
         byte: r.start + (k as u16),
-    }
+    })
 }

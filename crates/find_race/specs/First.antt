@@ -16,18 +16,23 @@ use Rattle.model.specs.Location.{common}
 use Rattle.model.specs.Race.{nth, clash, conflict, unordered, unordered_nth, race_nth, races, races_above, race_partner, has_race, race_row, race_byte}
 use Rattle.model_laws.specs.RaceLaws.{Sized, touched, common_left}
 use Rattle.model_laws.specs.PairLaws.{inside_out}
-use Rattle.find_race.specs.declared.Found.{Found}
-use Rattle.find_race.specs.declared.Found.TheVariants.{At, Nothing}
+use Rattle.std.specs.declared.option.Option.{Option}
+use Rattle.std.specs.declared.option.Option.TheVariants.{None, Some}
+use Rattle.model.specs.declared.Race.{Race}
 use Rattle.find_race.specs.Bytes.{Bounded, may_race}
 
 -- ---- definitions
 
+-- the rows x and y, with the byte b
+abbrev pub found_at : ℕ → ℕ → ℕ → Option Race
+found_at x y b = Some (record { first = x; second = y; byte = b })
+
 -- the pair x, y and its byte, where x is a row
-unfoldable pub race_of : Table → ℕ → ℕ → Found
-race_of t x y = cond (ltb x t.rows) (At x y (race_byte t x y)) Nothing
+unfoldable pub race_of : Table → ℕ → ℕ → Option Race
+race_of t x y = cond (ltb x t.rows) (found_at x y (race_byte t x y)) None
 
 -- the first race: the lower row, the higher, the byte
-unfoldable pub found_race : Table → Found
+unfoldable pub found_race : Table → Option Race
 found_race t = race_of t (race_row t) (race_partner t (race_row t))
 
 -- no byte below b is a byte of both rows with no order
@@ -129,7 +134,7 @@ module _ (t : Table) where
       le-ltb (least t.rows (races_above t x)) t.rows (omega arith)
 
   pub race_found : (x y b : ℕ) → least x (has_race t) ≡ x → x < t.rows → least y (races_above t x) ≡ y → y < t.rows → races_above t x y ≡ true
-      → b ≡ race_byte t x y → ◌≡◌ {A = Found} (At x y b) (found_race t)
+      → b ≡ race_byte t x y → ◌≡◌ {A = Option Race} (found_at x y b) (found_race t)
   unfolding found_race race_of race_row race_partner has_race
   race_found x y b first_x below_x first_y below_y on byte_is =
       let q : least t.rows (races_above t x) ≡ y = least_found (races_above t x) y t.rows first_y on below_y in
@@ -137,7 +142,7 @@ module _ (t : Table) where
       let f : least t.rows (λ z. ltb (least t.rows (races_above t z)) t.rows) ≡ x = least_found _ x t.rows first_x o below_x in
       rw (f, q, lt-ltb x t.rows below_x, byte_is) refl
 
-  pub race_none : (n : ℕ) → n ≡ t.rows → least n (has_race t) ≡ n → ◌≡◌ {A = Found} Nothing (found_race t)
+  pub race_none : (n : ℕ) → n ≡ t.rows → least n (has_race t) ≡ n → ◌≡◌ {A = Option Race} None (found_race t)
   unfolding found_race race_of race_row
   race_none n e h =
       let g : least t.rows (has_race t) ≡ t.rows = subst (λ (z : ℕ). least z (has_race t) ≡ z) e h in

@@ -10,6 +10,7 @@ ghost use Rattle.model.specs.Race.{unordered};
 ghost use Rattle.find_race.specs.Bytes.{Ready, Bounded, may_race};
 ghost use Rattle.find_race.specs.First.{found_race};
 
+use model::Race;
 use run::Run;
 use run_rows::shared;
 
@@ -65,19 +66,13 @@ pub fn may_race(t: &Run, n: usize, x: usize, y: usize, w: &[u64]) -> bool
     !(x == y) & shared::clash(r, q) & !mutual_at(t, n, x, y, w)
 }
 
-#[derive(Clone, Copy)]
-pub enum Found {
-    At { first: u16, second: u16, byte: u16 },
-    Nothing,
-}
-
 // The first pair in row order that races, then its lowest shared byte with no order: the lower row, the higher, the byte.
 // Ruled out: one that shows the rows exchanged; one that shows the lowest shared byte, ordered or not.
-pub fn first_race(t: &Run, n: usize, w: &[u64]) -> Found
+pub fn first_race(t: &Run, n: usize, w: &[u64]) -> Option<Race>
     requires { Bounded (table_in t.now n) × Ready (table_in t.now n) n w.now }
     ensures { result ≡ found_race (table_in t.now n) }
 {
-    let mut answer = Found::Nothing;
+    let mut answer = None;
     'pairs: for x in 0..n {
         let r = run::row(t, x as u16);
         let start = r.start as u32;
@@ -97,11 +92,11 @@ pub fn first_race(t: &Run, n: usize, w: &[u64]) -> Found
                 b += 1;
             };
             if hit < end {
-                answer = Found::At {
+                answer = Some(Race {
                     first: x as u16,
                     second: y as u16,
                     byte: hit as u16,
-                };
+                });
                 break 'pairs;
             }
         }

@@ -1,14 +1,16 @@
 -- What a check answers, and what it leaves in the lent buffers.
 use Rattle.std.specs.Prelude.{Bool, false, cond, List, ◌++◌, ℕ, ◌-◌, length, get_or, drop, replicate, ltb}
 use Rattle.finite.specs.Lists.{tabulate}
+use Rattle.std.specs.declared.result.Result.{Result}
+use Rattle.std.specs.declared.result.Result.TheVariants.{Ok, Err}
+use Rattle.model.specs.declared.Refusal.{Refusal}
 use Rattle.model.specs.declared.CheckAnswer.{CheckAnswer}
 use Rattle.model.specs.declared.CheckAnswer.TheVariants.{Cycle, Overwritten, Race, RaceFree}
-use Rattle.model.specs.declared.CheckAnswer.TheVariants
 use Rattle.model.specs.Limits.{WORK, CYCLE, CYCLE_EDGES}
 use Rattle.model.specs.Table.{Table, table_under, sources_of}
 use Rattle.model.specs.Race.{race_row, race_partner, race_byte}
 use Rattle.model.specs.Edge.{cycle_row, cycle_rows, cycle_edges, over_reader, over_writer, over_byte}
-use Rattle.model.specs.Refusal.{buffers_fit, admission, when_admitted}
+use Rattle.model.specs.Refusal.{refusal, buffers_fit, admission, when_admitted}
 
 -- ---- of any kind of answer
 
@@ -55,12 +57,12 @@ check chains s work buffer =
 -- ---- what comes back
 
 -- each case of the enum, with the number and values of docs/RULES.md
-unfoldable pub check_answer : Verdict → CheckAnswer
-check_answer (refused n i) = TheVariants.Refused n i
-check_answer (cyclic rows edges) = Cycle (length rows)
-check_answer (overwritten y z b) = Overwritten y z b
-check_answer (race x y b) = Race x y b
-check_answer race_free = RaceFree
+unfoldable pub check_answer : Verdict → Result CheckAnswer Refusal
+check_answer (refused n i) = Err (refusal n i)
+check_answer (cyclic rows edges) = Ok (Cycle (length rows))
+check_answer (overwritten y z b) = Ok (Overwritten (record { reader = y; writer = z; byte = b }))
+check_answer (race x y b) = Ok (Race (record { first = x; second = y; byte = b }))
+check_answer race_free = Ok RaceFree
 
 -- the cycle's numbers: its rows from place 0, its edge numbers from place CYCLE_EDGES, other places zero
 unfoldable pub cycle_number : List ℕ → List ℕ → ℕ → ℕ

@@ -5,9 +5,11 @@ use Rattle.std.specs.Prelude.{Bool, true, false, not, cond, List, ◌++◌, ℕ,
 use Rattle.finite.specs.Logic.{◌and◌, ◌or◌}
 use Rattle.finite.specs.Below.{any_below, least}
 use Rattle.finite.specs.Lists.{tabulate}
+use Rattle.std.specs.declared.result.Result.{Result}
+use Rattle.std.specs.declared.result.Result.TheVariants.{Ok, Err}
+use Rattle.model.specs.declared.Refusal.{Refusal}
 use Rattle.model.specs.declared.FillAnswer.{FillAnswer}
 use Rattle.model.specs.declared.FillAnswer.TheVariants.{Race, None, Filled}
-use Rattle.model.specs.declared.FillAnswer.TheVariants
 use Rattle.model.specs.Limits.{SOURCES, LONGEST, INITIAL, BLANK}
 use Rattle.model.specs.Row.{plain_read, writes, touches}
 use Rattle.model.specs.Table.{Table, table_under, sources_of}
@@ -15,7 +17,7 @@ use Rattle.model.specs.Scope.{follows}
 use Rattle.model.specs.Location.{before}
 use Rattle.model.specs.Race.{nth}
 use Rattle.model.specs.Edge.{before_some, consistent}
-use Rattle.model.specs.Refusal.{buffers_fit, admission, when_admitted}
+use Rattle.model.specs.Refusal.{refusal, buffers_fit, admission, when_admitted}
 use Rattle.model.specs.TableFault.{writer_fits, source_broken}
 use Rattle.model.specs.Check.{race_or, wiped}
 
@@ -88,11 +90,11 @@ fill chains s work buffer =
 -- ---- what comes back
 
 -- each case of the enum, with the number and values of docs/RULES.md
-unfoldable pub fill_answer : Outcome → FillAnswer
-fill_answer (refused n i) = TheVariants.Refused n i
-fill_answer (race x y b) = Race x y b
-fill_answer none = None
-fill_answer (filled l) = Filled
+unfoldable pub fill_answer : Outcome → Result FillAnswer Refusal
+fill_answer (refused n i) = Err (refusal n i)
+fill_answer (race x y b) = Ok (Race (record { first = x; second = y; byte = b }))
+fill_answer none = Ok None
+fill_answer (filled l) = Ok Filled
 
 -- the source buffer: one source per row, the rest kept; untouched unless filled
 unfoldable pub sources_after : Outcome → List ℕ → List ℕ

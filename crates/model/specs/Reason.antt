@@ -1,21 +1,22 @@
 -- Reasons: derivations that one moment happens before another, when one is accepted, and the one that is found.
 -- A derivation is the word program order, or a class set and a chain of steps; each step names the direct case of M6 that it uses
 -- and the moment that it reaches.
-use Rattle.std.specs.Prelude.{Bool, true, not, cond, List, ◌++◌, ℕ, suc, ◌+◌, ◌-◌, ◌*◌, ◌/◌, ◌%◌, length, get_or, drop, ltb, leb, eqb}
+use Rattle.std.specs.Prelude.{Bool, true, false, not, cond, List, ◌++◌, ℕ, suc, ◌+◌, ◌-◌, ◌*◌, ◌/◌, ◌%◌, length, get_or, drop, ltb, leb, eqb}
 use Rattle.finite.specs.Logic.{◌and◌}
 use Rattle.finite.specs.Below.{any_below, least}
 use Rattle.finite.specs.Walk.{walk, trail, along}
 use Rattle.model.specs.declared.Reason.{Reason}
 use Rattle.model.specs.declared.Reason.TheVariants as reason
-use Rattle.model.specs.declared.AcceptAnswer.{AcceptAnswer}
-use Rattle.model.specs.declared.AcceptAnswer.TheVariants as accept
+use Rattle.std.specs.declared.result.Result.{Result}
+use Rattle.std.specs.declared.result.Result.TheVariants.{Ok, Err}
+use Rattle.model.specs.declared.Refusal.{Refusal}
 use Rattle.model.specs.declared.DeriveAnswer.{DeriveAnswer}
 use Rattle.model.specs.declared.DeriveAnswer.TheVariants as derived
 use Rattle.model.specs.Limits.{STEPS, CASE, CLASS_SETS}
 use Rattle.model.specs.Table.{Table, table_of}
 use Rattle.model.specs.Moment.{moment, program_order}
 use Rattle.model.specs.Happens.{ROW_CASES, direct, nth_case, step}
-use Rattle.model.specs.Refusal.{buffers_fit, admission, when_admitted}
+use Rattle.model.specs.Refusal.{refusal, buffers_fit, admission, when_admitted}
 use Rattle.model.specs.Check.{wiped}
 
 -- ---- a step is one number: CASE × its case, 1 to 3 in M6's order, 4 for system synchronization, + the moment that it reaches
@@ -76,10 +77,11 @@ judged t m k r steps = cond (two_moments t m k) (cond (accepts t m k r steps) ac
 unfoldable pub judge : List ℕ → ℕ → ℕ → Reason → List ℕ → Judged
 judge s m k r steps = when_admitted Judged.refused (admission true s) (judged (table_of s) m k r steps)
 
-unfoldable pub accept_answer : Judged → AcceptAnswer
-accept_answer (refused n i) = accept.Refused n i
-accept_answer accepted = accept.Accepted
-accept_answer not_accepted = accept.NotAccepted
+-- whether it is accepted
+unfoldable pub accept_answer : Judged → Result Bool Refusal
+accept_answer (refused n i) = Err (refusal n i)
+accept_answer accepted = Ok true
+accept_answer not_accepted = Ok false
 
 -- ---- the derivation that is found: docs/RULES.md leaves it open, so this is ours
 
@@ -135,11 +137,11 @@ derive s m k work buffer =
 
 -- ---- what comes back
 
-unfoldable pub derive_answer : Derived → DeriveAnswer
-derive_answer (refused n i) = derived.Refused n i
-derive_answer word = derived.ProgramOrder
-derive_answer (chained s l) = derived.Chain s (length l)
-derive_answer not_before = derived.NotBefore
+unfoldable pub derive_answer : Derived → Result DeriveAnswer Refusal
+derive_answer (refused n i) = Err (refusal n i)
+derive_answer word = Ok derived.ProgramOrder
+derive_answer (chained s l) = Ok (derived.Chain s (length l))
+derive_answer not_before = Ok derived.NotBefore
 
 -- the chain buffer: its steps from place 0, the rest kept; untouched unless there is a chain
 unfoldable pub chain_after : Derived → List ℕ → List ℕ

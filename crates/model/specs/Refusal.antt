@@ -2,9 +2,10 @@
 use Rattle.std.specs.Prelude.{Bool, not, cond, List, ℕ, ◌+◌, length, ltb, leb, eqb}
 use Rattle.finite.specs.Logic.{◌and◌}
 use Rattle.finite.specs.Below.{any_below, least}
-use Rattle.model.specs.declared.Admission.{Admission}
+use Rattle.std.specs.declared.result.Result.{Result}
+use Rattle.std.specs.declared.result.Result.TheVariants.{Ok, Err}
+use Rattle.model.specs.declared.Counts.{Counts}
 use Rattle.model.specs.declared.Refusal.{Refusal}
-use Rattle.model.specs.declared.Admission.TheVariants.{Admitted, Refused}
 use Rattle.model.specs.Limits.{AGENTS, ROWS, WORK, DEPENDENCIES}
 use Rattle.model.specs.Header.{HEADER, VERSION_PLAIN, VERSION_HOSTS, count_at, version_at, agents_at, rows_at, zero_at, has_hosts, size_of, row_bytes}
 use Rattle.model.specs.Table.{row_of, source_of, dependency_count, dependency_from, dependency_to, table_of, sources_of}
@@ -12,6 +13,23 @@ use Rattle.model.specs.Header.{dependency_bytes, places_of}
 use Rattle.model.specs.Scope.{QUEUE, agent_kind}
 use Rattle.model.specs.RowFault.{row_fault}
 use Rattle.model.specs.TableFault.{table_fault}
+
+-- ---- what is said of a table
+
+pub data Admission : Type 0 where
+  -- how many agents and rows it has
+  Admitted : ℕ → ℕ → Admission
+  -- number and row
+  Refused : ℕ → ℕ → Admission
+
+-- a refusal, as a program has it
+abbrev pub refusal : ℕ → ℕ → Refusal
+refusal n i = record { number = n; row = i }
+
+-- the counts of a table that is admitted, else its refusal
+unfoldable pub admission_answer : Admission → Result Counts Refusal
+admission_answer (Admitted a n) = Ok (record { agents = a; rows = n })
+admission_answer (Refused n i) = Err (refusal n i)
 
 -- ---- 11: the lent buffers, by their lengths; `needs` is what the second one must hold
 
@@ -88,11 +106,6 @@ admission blanks s =
     (Refused (header_fault s) 0)
 
 -- ---- what is said of it
-
--- a refusal's number and row; an admission has neither
-unfoldable pub refusal_of : Admission → Refusal
-refusal_of (Refused n i) = record { number = n; row = i }
-refusal_of (Admitted a n) = record { number = 0; row = 0 }
 
 -- a refusal as `refused` of its number and row, else v, whatever kind of answer it is
 unfoldable pub when_admitted : {A : Type 0} → (ℕ → ℕ → A) → Admission → A → A

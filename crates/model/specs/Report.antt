@@ -5,18 +5,22 @@ use Rattle.std.specs.Float.Ieee.{round}
 use Rattle.finite.specs.Logic.{◌and◌, ◌or◌}
 use Rattle.finite.specs.Below.{all_below}
 use Rattle.finite.specs.Count.{count_pairs}
+use Rattle.std.specs.declared.option.Option.{Option}
+use Rattle.std.specs.declared.option.Option.TheVariants.{None, Some}
+use Rattle.std.specs.declared.result.Result.{Result}
+use Rattle.std.specs.declared.result.Result.TheVariants.{Ok, Err}
+use Rattle.model.specs.declared.Refusal.{Refusal}
 use Rattle.model.specs.declared.CheckAnswer.{CheckAnswer}
 use Rattle.model.specs.declared.CheckAnswer.TheVariants as said
-use Rattle.model.specs.declared.Share.{Share}
-use Rattle.model.specs.declared.Share.TheVariants as share
 use Rattle.model.specs.declared.Report.{Report}
 use Rattle.model.specs.declared.ReportAnswer.{ReportAnswer}
-use Rattle.model.specs.declared.ReportAnswer.TheVariants as told
+use Rattle.model.specs.declared.ReportAnswer.TheVariants as reports
 use Rattle.model.specs.Limits.{LONGEST}
 use Rattle.model.specs.Table.{Table, table_under}
 use Rattle.model.specs.Scope.{mutually}
 use Rattle.model.specs.Location.{common, before}
 use Rattle.model.specs.Race.{nth, conflict, races}
+use Rattle.model.specs.Refusal.{refusal}
 use Rattle.model.specs.Check.{check, check_answer}
 
 -- ---- what becomes of a conflicting pair; races are Race.antt's
@@ -57,32 +61,52 @@ unfoldable pub quotient : ℕ → ℕ → Float
 quotient n d = round binary64 false n d
 
 -- n of d; none where d is 0
-unfoldable pub share_of : ℕ → ℕ → Share
-share_of n d = cond (eqb d 0) share.NoPairs (share.Of (quotient n d))
+unfoldable pub share_of : ℕ → ℕ → Option Float
+share_of n d = cond (eqb d 0) None (Some (quotient n d))
 
--- ---- what comes back
+-- ---- what is told, in the words of docs/RULES.md
+
+pub data Told : Type 0 where
+  -- number and row
+  refused : ℕ → ℕ → Told
+  -- the rows of the cycle
+  cyclic : ℕ → Told
+  -- Y, Z, b
+  overwritten : ℕ → ℕ → ℕ → Told
+  no_pairs : Told
+  reported : Report → Told
 
 -- the four counts with the share beside them
 unfoldable pub report_of : Table → Float → Report
 report_of t f = record { conflicting = conflicting t; mutuals = mutuals t; ordered = ordered t; racing = racing t; share = f }
 
-unfoldable pub with_share : Share → Table → ReportAnswer
-with_share share.NoPairs t = told.NoPairs
-with_share (share.Of f) t = told.Report (report_of t f)
+unfoldable pub with_share : Option Float → Table → Told
+with_share None t = no_pairs
+with_share (Some f) t = reported (report_of t f)
 
 -- of a table that is consistent
-unfoldable pub report_on : Table → ReportAnswer
+unfoldable pub report_on : Table → Told
 report_on t = with_share (share_of (racing t) (conflicting t)) t
 
 -- check's answer to a table that is refused or inconsistent; else the report
-unfoldable pub report_answer : CheckAnswer → Table → ReportAnswer
-report_answer (said.Refused n i) t = told.Refused n i
-report_answer (said.Cycle rows) t = told.Cycle rows
-report_answer (said.Overwritten y z b) t = told.Overwritten y z b
-report_answer (said.Race x y b) t = report_on t
-report_answer said.RaceFree t = report_on t
+unfoldable pub report_answer : Result CheckAnswer Refusal → Table → Told
+report_answer (Err r) t = refused r.number r.row
+report_answer (Ok (said.Cycle rows)) t = cyclic rows
+report_answer (Ok (said.Overwritten o)) t = overwritten o.reader o.writer o.byte
+report_answer (Ok (said.Race r)) t = report_on t
+report_answer (Ok said.RaceFree) t = report_on t
 
 -- of any bytes, on a device with or without chains, with a work area and a cycle buffer of such lengths; both are left as a check
 -- leaves them
-unfoldable pub report : Bool → List ℕ → ℕ → ℕ → ReportAnswer
+unfoldable pub report : Bool → List ℕ → ℕ → ℕ → Told
 report chains s work buffer = report_answer (check_answer (check chains s work buffer)) (table_under chains s)
+
+-- ---- what comes back
+
+-- each case of the enum, with the number and values of docs/RULES.md
+unfoldable pub told_answer : Told → Result ReportAnswer Refusal
+told_answer (refused n i) = Err (refusal n i)
+told_answer (cyclic rows) = Ok (reports.Cycle rows)
+told_answer (overwritten y z b) = Ok (reports.Overwritten (record { reader = y; writer = z; byte = b }))
+told_answer no_pairs = Ok reports.NoPairs
+told_answer (reported r) = Ok (reports.Report r)

@@ -5,8 +5,8 @@ use Rattle.std.specs.Int.Bits.{bit_and}
 use Rattle.finite.specs.Logic.{◌and◌, ◌or◌}
 use Rattle.finite.specs.Below.{least}
 use Rattle.model.specs.declared.Row.{Row}
-use Rattle.model.specs.declared.Shared.{Shared}
-use Rattle.model.specs.declared.Shared.TheVariants.{At, Nothing}
+use Rattle.std.specs.declared.option.Option.{Option}
+use Rattle.std.specs.declared.option.Option.TheVariants.{None, Some}
 
 -- ---- kinds
 
@@ -159,12 +159,12 @@ unfoldable pub covers : Row → Row → Bool
 covers w r = leb w.start r.start and leb (r.start + r.size) (w.start + w.size)
 
 -- the lowest of the m bytes from a that is one of the n bytes from b
-unfoldable pub lowest_shared : ℕ → ℕ → ℕ → ℕ → Shared
-lowest_shared a m b n = let k = least m (λ k. inside b n (a + k)) in cond (ltb k m) (At (a + k)) Nothing
+unfoldable pub lowest_shared : ℕ → ℕ → ℕ → ℕ → Option ℕ
+lowest_shared a m b n = let k = least m (λ k. inside b n (a + k)) in cond (ltb k m) (Some (a + k)) None
 
-unfoldable pub is_shared : Shared → Bool
-is_shared (At b) = true
-is_shared Nothing = false
+unfoldable pub is_shared : Option ℕ → Bool
+is_shared (Some b) = true
+is_shared None = false
 
 -- two rows share a byte
 unfoldable pub overlap : Row → Row → Bool

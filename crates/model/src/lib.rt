@@ -1,9 +1,8 @@
-// What the crates share: the limits, and the types of a row, a source, an admission and the answers.
+// What the crates share: the limits, and the types of a row, a source, a refusal and the answers.
 #![tactic(auto)]
 
 ghost use Rattle.std.specs.Prelude.{◌≡◌, eqb, ltb};
 ghost use Rattle.model.specs.Limits.{INITIAL, BLANK};
-ghost use Rattle.model.specs.Refusal.{refusal_of};
 
 // ---- limits
 
@@ -90,20 +89,14 @@ impl Source {
     }
 }
 
-// The lowest byte that two accesses share.
+// A row with its source.
 #[derive(Clone, Copy)]
-pub enum Shared {
-    At(u16),
-    Nothing,
+pub struct Entry {
+    pub row: Row,
+    pub source: Source,
 }
 
 // ---- answers
-
-#[derive(Clone, Copy)]
-pub enum Admission {
-    Admitted { agents: u8, rows: u8 },
-    Refused { number: u8, row: u16 },
-}
 
 // The number and the row of a refusal.
 #[derive(Clone, Copy)]
@@ -112,32 +105,40 @@ pub struct Refusal {
     pub row: u16,
 }
 
-// Takes them out. An admission has neither, and is not handed to it: the caller has let it go by `let else`.
-pub fn refusal_of(a: Admission) -> Refusal
-    ensures { result ≡ refusal_of a }
-{
-    match a {
-        Admission::Refused { number, row } => Refusal {
-            number: number,
-            row: row,
-        },
-        Admission::Admitted { agents: _, rows: _ } => Refusal { number: 0, row: 0 },
-    }
+// How many agents and rows a table that is admitted has.
+#[derive(Clone, Copy)]
+pub struct Counts {
+    pub agents: u8,
+    pub rows: u8,
+}
+
+// Two rows that race, the lower and the higher, and their lowest byte with no order.
+#[derive(Clone, Copy)]
+pub struct Race {
+    pub first: u16,
+    pub second: u16,
+    pub byte: u16,
+}
+
+// A row that reads a byte whose source another row overwrites before.
+#[derive(Clone, Copy)]
+pub struct Overwritten {
+    pub reader: u16,
+    pub writer: u16,
+    pub byte: u16,
 }
 
 #[derive(Clone, Copy)]
 pub enum CheckAnswer {
-    Refused { number: u8, row: u16 },
     Cycle { rows: u16 },
-    Overwritten { reader: u16, writer: u16, byte: u16 },
-    Race { first: u16, second: u16, byte: u16 },
+    Overwritten(Overwritten),
+    Race(Race),
     RaceFree,
 }
 
 #[derive(Clone, Copy)]
 pub enum FillAnswer {
-    Refused { number: u8, row: u16 },
-    Race { first: u16, second: u16, byte: u16 },
+    Race(Race),
     None,
     Filled,
 }
@@ -150,25 +151,10 @@ pub enum Reason {
 }
 
 #[derive(Clone, Copy)]
-pub enum AcceptAnswer {
-    Refused { number: u8, row: u16 },
-    Accepted,
-    NotAccepted,
-}
-
-#[derive(Clone, Copy)]
 pub enum DeriveAnswer {
-    Refused { number: u8, row: u16 },
     ProgramOrder,
     Chain { classes: u8, steps: u16 },
     NotBefore,
-}
-
-// The share of the conflicting pairs that races; a table without a conflicting pair has none.
-#[derive(Clone, Copy)]
-pub enum Share {
-    Of(f64),
-    NoPairs,
 }
 
 // How many pairs of rows conflict; how many of these are mutually-ordered, how many aren't but have order at every shared byte, and
@@ -182,12 +168,11 @@ pub struct Report {
     pub share: f64,
 }
 
-// A check's answer to a table that is refused or inconsistent; else the report, or that no pair conflicts.
+// A check's answer to a table that is inconsistent; else the report, or that no pair conflicts.
 #[derive(Clone, Copy)]
 pub enum ReportAnswer {
-    Refused { number: u8, row: u16 },
     Cycle { rows: u16 },
-    Overwritten { reader: u16, writer: u16, byte: u16 },
+    Overwritten(Overwritten),
     NoPairs,
     Report(Report),
 }

@@ -2,7 +2,11 @@
 -- crates/model_promises/specs/Main.antt: each proof names a theorem of a page beside this one. The notation, the words
 -- and the meanings are those of specs/Pieces.antt.
 use Rattle.std.specs.Prelude.{◌≡◌, Bool, List, [], ◌++◌, ◌⊎◌, ◌↔◌, ℕ, ◌+◌, ◌/◌, ◌<◌, length}
-use Rattle.model.specs.declared.{Admission.Admission, Reason.Reason, ReportAnswer.ReportAnswer}
+use Rattle.std.specs.declared.option.Option.{Option}
+use Rattle.std.specs.declared.option.Option.TheVariants.{None, Some}
+use Rattle.model.specs.declared.Reason.{Reason}
+use Rattle.model.specs.Refusal.{Admission}
+use Rattle.model.specs.Report.{Told}
 use Rattle.model.specs.Limits.{CYCLE, SOURCES}
 use Rattle.model.specs.Header.{ROW_BYTES, version_at, agents_at, rows_at, places_of, row_bytes, dependency_bytes}
 use Rattle.model.specs.Table.{table_of}
@@ -48,8 +52,8 @@ module _ (chains : Bool) (f s : List ℕ) (work buffer : ℕ) where
   fill2_means = beside.PiecesExactly.fill_exactly chains f s work buffer
 
   -- a report
-  pub report2_means : (a : ReportAnswer) → (report_both chains f s work buffer ≡ a)
-      ↔ OfPair f s (Short CYCLE work buffer) ReportAnswer.Refused (λ t. ReportMeans chains t work buffer) a
+  pub report2_means : (a : Told) → (report_both chains f s work buffer ≡ a)
+      ↔ OfPair f s (Short CYCLE work buffer) Told.refused (λ t. ReportMeans chains t work buffer) a
   report2_means = beside.PiecesExactly.report_exactly chains f s work buffer
 
 module _ (f s : List ℕ) (m k : ℕ) where
@@ -137,10 +141,10 @@ module _ (f : List ℕ) where
 module _ (f s : List ℕ) (n : ℕ) where
   -- where it begins: in the first piece, in the second, or nowhere, for a row that neither has and for a pair that is
   -- refused before 5
-  pub place_means : (w : RowPlace) → (row_place f s n ≡ w) ↔ PlaceMeans f s n w
-  place_means (RowPlace.First at) = beside.PiecesExactly.place_exactly f s n (RowPlace.First at)
-  place_means (RowPlace.Second at) = beside.PiecesExactly.place_exactly f s n (RowPlace.Second at)
-  place_means RowPlace.Neither = beside.PiecesExactly.place_exactly f s n RowPlace.Neither
+  pub place_means : (w : Option RowPlace) → (row_place f s n ≡ w) ↔ PlaceMeans f s n w
+  place_means (Some (RowPlace.First at)) = beside.PiecesExactly.place_exactly f s n (Some (RowPlace.First at))
+  place_means (Some (RowPlace.Second at)) = beside.PiecesExactly.place_exactly f s n (Some (RowPlace.Second at))
+  place_means None = beside.PiecesExactly.place_exactly f s n None
 
   -- what row_part shows begins at that place
   pub part_place : row_part f s n ≡ part_at f s (row_place f s n)

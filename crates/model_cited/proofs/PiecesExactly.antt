@@ -1,14 +1,16 @@
 -- What is said of a table in two pieces, exactly: the proofs of Pieces.antt. Assumes nothing.
 use Rattle.std.specs.Prelude.{◌≡◌, Bool, true, false, cond, List, [], ◌++◌, ◌⊎◌, ◌↔◌, ℕ, ◌+◌, ◌-◌, ◌*◌, ◌/◌, ◌%◌, ◌≤◌, ◌<◌, length, take, drop}
+use Rattle.std.specs.declared.option.Option.{Option}
+use Rattle.std.specs.declared.option.Option.TheVariants.{None, Some}
 use Rattle.std.proofs.Math.Path.{refl}
 use Rattle.std.proofs.Common.{sym, ap, ◌∙◌, subst, inl, inr, length-take, length-drop}
 use native.Mathlib.Omega.{arith}
 use Rattle.std.proofs.Math.Decide.{dec_lt, ℕ_discrete}
 use borrow.Author.Tests.{ne_eqb, le-leb, lt-leb}
 use Rattle.finite.specs.Logic.{which, not_both}
-use Rattle.model.specs.declared.Admission.TheVariants.{Refused}
+use Rattle.model.specs.Refusal.{Refused}
 use Rattle.model.specs.declared.Reason.{Reason}
-use Rattle.model.specs.declared.ReportAnswer.{ReportAnswer}
+use Rattle.model.specs.Report.{Told}
 use Rattle.model.specs.Limits.{ROWS, CYCLE, SOURCES, STEPS}
 use Rattle.model.specs.Header.{HEADER, ROW_BYTES, version_at, agents_at, rows_at, rows_begin, places_of, row_bytes}
 use Rattle.model.specs.Table.{table_of}
@@ -185,8 +187,8 @@ module _ (chains : Bool) (f s : List ℕ) (work buffer : ℕ) where
       bytes : PairPasses f s → Bytes (joined f s)
       bytes h = bytes_joined f s (pair_none f s h) b c
 
-  pub report_exactly : (a : ReportAnswer) → (report_both chains f s work buffer ≡ a)
-      ↔ OfPair f s (Short CYCLE work buffer) ReportAnswer.Refused (λ t. means.ReportMeans chains t work buffer) a
+  pub report_exactly : (a : Told) → (report_both chains f s work buffer ≡ a)
+      ↔ OfPair f s (Short CYCLE work buffer) Told.refused (λ t. means.ReportMeans chains t work buffer) a
   unfolding report_both
   report_exactly a = (
     door_means f s _ _ _ CYCLE work buffer a (λ h. (means.report_means chains (joined f s) work buffer a).0),
@@ -353,24 +355,24 @@ module _ (f s : List ℕ) where
   more = omega arith
 
   module _ (n : ℕ) where
-    abbrev Place : RowPlace → Type 0
-    Place (RowPlace.First at) = RowsHeld f s × (n < rows_at f) × (at ≡ rows_begin f + ROW_BYTES * n)
-    Place (RowPlace.Second at) =
+    abbrev Place : Option RowPlace → Type 0
+    Place (Some (RowPlace.First at)) = RowsHeld f s × (n < rows_at f) × (at ≡ rows_begin f + ROW_BYTES * n)
+    Place (Some (RowPlace.Second at)) =
         RowsHeld f s × (rows_at f ≤ n) × (n < rows_both f s) × (at ≡ ROW_BYTES * (n - rows_at f))
-    Place RowPlace.Neither = (RowsHeld f s → ⊥) ⊎ (rows_both f s ≤ n)
+    Place None = (RowsHeld f s → ⊥) ⊎ (rows_both f s ≤ n)
 
-    first_here : RowsHeld f s → n < rows_at f → row_place f s n ≡ RowPlace.First (rows_begin f + ROW_BYTES * n)
+    first_here : RowsHeld f s → n < rows_at f → row_place f s n ≡ Some (RowPlace.First (rows_begin f + ROW_BYTES * n))
     first_here h = (part_is f s n).first (held_early h)
 
     second_here : RowsHeld f s → rows_at f ≤ n → n < rows_both f s
-        → row_place f s n ≡ RowPlace.Second (ROW_BYTES * (n - rows_at f))
+        → row_place f s n ≡ Some (RowPlace.Second (ROW_BYTES * (n - rows_at f)))
     second_here h = (part_is f s n).second (held_early h)
 
-    nowhere : Place RowPlace.Neither → row_place f s n ≡ RowPlace.Neither
+    nowhere : Place None → row_place f s n ≡ None
     nowhere (inl d) = sym (place_refused f s n (early_fault f s) refl (λ e. d (early_held e)))
     nowhere (inr l) = go (ℕ_discrete (early_fault f s) 0)
       where
-        go : Dec (early_fault f s ≡ 0) → row_place f s n ≡ RowPlace.Neither
+        go : Dec (early_fault f s ≡ 0) → row_place f s n ≡ None
         go (yes e) =
             let m = more in
             sym (place_past f s n 0 (sym e) refl (rows_at f) refl (rows_both f s) refl (omega arith) l)
@@ -393,13 +395,13 @@ module _ (f s : List ℕ) where
         go (inl h) (no a) (yes b) = subst Place (sym (second_here h (omega arith) b)) (h, omega arith, b, refl)
         go (inl h) (no a) (no b) = subst Place (sym (nowhere (inr (omega arith)))) (inr (omega arith))
 
-    pub place_exactly : (w : RowPlace) → (row_place f s n ≡ w) ↔ Place w
+    pub place_exactly : (w : Option RowPlace) → (row_place f s n ≡ w) ↔ Place w
     place_exactly w = (λ e. subst Place e place_said, back w)
       where
-        back : (w : RowPlace) → Place w → row_place f s n ≡ w
-        back (RowPlace.First at) (h, l, e) = first_here h l ∙ ap RowPlace.First (sym e)
-        back (RowPlace.Second at) (h, l, m, e) = second_here h l m ∙ ap RowPlace.Second (sym e)
-        back RowPlace.Neither d = nowhere d
+        back : (w : Option RowPlace) → Place w → row_place f s n ≡ w
+        back (Some (RowPlace.First at)) (h, l, e) = first_here h l ∙ ap (λ (i : ℕ). Some (RowPlace.First i)) (sym e)
+        back (Some (RowPlace.Second at)) (h, l, m, e) = second_here h l m ∙ ap (λ (i : ℕ). Some (RowPlace.Second i)) (sym e)
+        back None d = nowhere d
 
     pub part_place : row_part f s n ≡ part_at f s (row_place f s n)
     part_place = (part_is f s n).at

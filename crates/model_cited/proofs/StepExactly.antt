@@ -7,7 +7,11 @@ use Rattle.model.specs.Table.{row_of, source_of}
 use Rattle.model.specs.Header.{ROW_BYTES, agents_at, rows_at, row_bytes}
 use Rattle.door_write.specs.Encode.{row_list}
 use Rattle.door_write.specs.Promise.{row_bytes_again}
-use Rattle.door_step.specs.declared.{RowReader.RowReader, Step.Step, Stepped.Stepped}
+use Rattle.door_step.specs.declared.RowReader.{RowReader}
+use Rattle.std.specs.declared.option.Option.{Option}
+use Rattle.std.specs.declared.option.Option.TheVariants.{None, Some}
+use Rattle.model.specs.declared.Entry.{Entry}
+use Rattle.door_step.specs.Steps.{StepAnswer}
 use Rattle.door_step.specs.Steps.{steps_of, stepped_at}
 use Rattle.door_step.specs.Promise.{opened_rows, opened_end, refused_end, from_refused, from_row_lem, from_end}
 use Rattle.model_promises.specs.Terms.{Bytes, Fillable, Unfillable}
@@ -19,10 +23,10 @@ use Rattle.model_cited.specs.StepExactly.{Means}
 
 module _ (s : List ℕ) (i : ℕ) where
   row_here : Fillable s → i < rows_at s
-      → stepped_at s i ≡ Stepped.Row (row_of (row_bytes s) i) (source (source_of (row_bytes s) i)) (i + 1)
+      → stepped_at s i ≡ StepAnswer.Row (row_of (row_bytes s) i) (source (source_of (row_bytes s) i)) (i + 1)
   row_here e l = from_row_lem s (agents_at s) (rows_at s) e i l
 
-  end_here : Fillable s → rows_at s ≤ i → stepped_at s i ≡ Stepped.End i
+  end_here : Fillable s → rows_at s ≤ i → stepped_at s i ≡ StepAnswer.End i
   end_here e l = from_end s (agents_at s) (rows_at s) e i l
 
   -- what is said is true
@@ -34,27 +38,27 @@ module _ (s : List ℕ) (i : ℕ) where
       go (inl e) (yes l) = subst (Means s i) (sym (row_here e l)) (e, l, refl, refl, refl)
       go (inl e) (no l) = subst (Means s i) (sym (end_here e (omega arith))) (e, omega arith, refl)
 
-  pub exactly : (x : Stepped) → (stepped_at s i ≡ x) ↔ Means s i x
+  pub exactly : (x : StepAnswer) → (stepped_at s i ≡ x) ↔ Means s i x
   exactly x = (λ e. subst (Means s i) e said, back x)
     where
-      back : (x : Stepped) → Means s i x → stepped_at s i ≡ x
-      back (Stepped.Refused n j) e = from_refused s n j e i
-      back (Stepped.Row r c next) (e, l, p, q, n) = row_here e l ∙ rw (p, q, n) refl
-      back (Stepped.End next) (e, l, n) = end_here e l ∙ rw n refl
+      back : (x : StepAnswer) → Means s i x → stepped_at s i ≡ x
+      back (StepAnswer.Refused n j) e = from_refused s n j e i
+      back (StepAnswer.Row r c next) (e, l, p, q, n) = row_here e l ∙ rw (p, q, n) refl
+      back (StepAnswer.End next) (e, l, n) = end_here e l ∙ rw n refl
 
 -- ---- a call of a reader
 
 module _ (s : List ℕ) (i : ℕ) (r : RowReader) (o : Opens s r) where
-  abbrev MeansNext : Step → Type 0
-  MeansNext (Step.Row q c) =
-      Fillable s × (i < rows_at s) × (q ≡ row_of (row_bytes s) i) × (c ≡ source (source_of (row_bytes s) i))
-  MeansNext Step.End = (Fillable s × (rows_at s ≤ i)) ⊎ ((n : ℕ) × (j : ℕ) × Unfillable s n j)
+  abbrev MeansNext : Option Entry → Type 0
+  MeansNext (Some e) =
+      Fillable s × (i < rows_at s) × (e.row ≡ row_of (row_bytes s) i) × (e.source ≡ source (source_of (row_bytes s) i))
+  MeansNext None = (Fillable s × (rows_at s ≤ i)) ⊎ ((n : ℕ) × (j : ℕ) × Unfillable s n j)
 
   row_next : Fillable s → i < rows_at s
-      → steps_of r i ≡ Step.Row (row_of (row_bytes s) i) (source (source_of (row_bytes s) i))
+      → steps_of r i ≡ Some (record { row = row_of (row_bytes s) i; source = source (source_of (row_bytes s) i) })
   row_next e l = opened_rows s r o.0 o.1 (agents_at s) (rows_at s) e i l
 
-  end_next : MeansNext Step.End → steps_of r i ≡ Step.End
+  end_next : MeansNext None → steps_of r i ≡ None
   end_next (inl (e, l)) = opened_end s r o.0 o.1 (agents_at s) (rows_at s) e i l
   end_next (inr (n, j, e)) = refused_end s r o.0 o.1 n j e i
 
@@ -66,37 +70,37 @@ module _ (s : List ℕ) (i : ℕ) (r : RowReader) (o : Opens s r) where
       go (inl e) (yes l) = subst MeansNext (sym (row_next e l)) (e, l, refl, refl)
       go (inl e) (no l) = subst MeansNext (sym (end_next (inl (e, omega arith)))) (inl (e, omega arith))
 
-  pub next_exactly : (x : Step) → (steps_of r i ≡ x) ↔ MeansNext x
+  pub next_exactly : (x : Option Entry) → (steps_of r i ≡ x) ↔ MeansNext x
   next_exactly x = (λ e. subst MeansNext e said_next, back x)
     where
-      back : (x : Step) → MeansNext x → steps_of r i ≡ x
-      back (Step.Row q c) (e, l, p, n) = row_next e l ∙ rw (p, n) refl
-      back Step.End e = end_next e
+      back : (x : Option Entry) → MeansNext x → steps_of r i ≡ x
+      back (Some x) (e, l, p, n) = row_next e l ∙ rw (← p, ← n) refl
+      back None e = end_next e
 
 -- ---- what follows
 
 pub row_bytes_lem : (s : List ℕ) → Bytes s → (i : ℕ) (r : Row) (c : Source) (next : ℕ)
-    → stepped_at s i ≡ Stepped.Row r c next
+    → stepped_at s i ≡ StepAnswer.Row r c next
     → row_list r c.0 ≡ take ROW_BYTES (drop (ROW_BYTES * i) (row_bytes s))
 row_bytes_lem s bytes i r c next e =
-    let m = (exactly s i (Stepped.Row r c next)).0 e in
+    let m = (exactly s i (StepAnswer.Row r c next)).0 e in
     rw (m.2, m.3) (row_bytes_again s bytes (agents_at s) (rows_at s) m.0 i m.1)
 
-pub refused_everywhere : (s : List ℕ) (i n j : ℕ) → stepped_at s i ≡ Stepped.Refused n j
-    → (k : ℕ) → stepped_at s k ≡ Stepped.Refused n j
-refused_everywhere s i n j e k = (exactly s k (Stepped.Refused n j)).1 ((exactly s i (Stepped.Refused n j)).0 e)
+pub refused_everywhere : (s : List ℕ) (i n j : ℕ) → stepped_at s i ≡ StepAnswer.Refused n j
+    → (k : ℕ) → stepped_at s k ≡ StepAnswer.Refused n j
+refused_everywhere s i n j e k = (exactly s k (StepAnswer.Refused n j)).1 ((exactly s i (StepAnswer.Refused n j)).0 e)
 
-pub end_stays : (s : List ℕ) (i next : ℕ) → stepped_at s i ≡ Stepped.End next
-    → (k : ℕ) → i ≤ k → stepped_at s k ≡ Stepped.End k
+pub end_stays : (s : List ℕ) (i next : ℕ) → stepped_at s i ≡ StepAnswer.End next
+    → (k : ℕ) → i ≤ k → stepped_at s k ≡ StepAnswer.End k
 end_stays s i next e k l =
-    let m = (exactly s i (Stepped.End next)).0 e in
+    let m = (exactly s i (StepAnswer.End next)).0 e in
     let h = m.1 in
-    (exactly s k (Stepped.End k)).1 (m.0, omega arith, refl)
+    (exactly s k (StepAnswer.End k)).1 (m.0, omega arith, refl)
 
-pub next_end_stays : (s : List ℕ) (r : RowReader) → Opens s r → (i : ℕ) → steps_of r i ≡ Step.End
-    → (k : ℕ) → i ≤ k → steps_of r k ≡ Step.End
-next_end_stays s r o i e k l = go ((next_exactly s i r o Step.End).0 e)
+pub next_end_stays : (s : List ℕ) (r : RowReader) → Opens s r → (i : ℕ) → steps_of r i ≡ None
+    → (k : ℕ) → i ≤ k → steps_of r k ≡ None
+next_end_stays s r o i e k l = go ((next_exactly s i r o None).0 e)
   where
-    go : (Fillable s × (rows_at s ≤ i)) ⊎ ((n : ℕ) × (j : ℕ) × Unfillable s n j) → steps_of r k ≡ Step.End
-    go (inl (f, h)) = (next_exactly s k r o Step.End).1 (inl (f, omega arith))
-    go (inr u) = (next_exactly s k r o Step.End).1 (inr u)
+    go : (Fillable s × (rows_at s ≤ i)) ⊎ ((n : ℕ) × (j : ℕ) × Unfillable s n j) → steps_of r k ≡ None
+    go (inl (f, h)) = (next_exactly s k r o None).1 (inl (f, omega arith))
+    go (inr u) = (next_exactly s k r o None).1 (inr u)

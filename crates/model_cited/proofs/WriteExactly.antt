@@ -6,7 +6,9 @@ use Rattle.std.proofs.Math.Decide.{dec_lt}
 use Rattle.std.proofs.Math.ListN.{length}
 use Rattle.std.proofs.Math.Seq.{drop_at}
 use Rattle.finite.specs.Logic.{which}
-use Rattle.door_write.specs.declared.{Entry.Entry, Dependencies.Dependencies, WriteAnswer.WriteAnswer}
+use Rattle.door_write.specs.declared.Dependencies.{Dependencies}
+use Rattle.model.specs.declared.Entry.{Entry}
+use Rattle.door_write.specs.Answer.{WriteAnswer}
 use Rattle.door_write.specs.Encode.{table_size, encode, entries_in}
 use Rattle.door_write.specs.Answer.{version_known, counts_fit, numbers_fit, dependencies_fit, values_fault, write_answer, buffer_after}
 use Rattle.door_write.specs.ValueLaws.{Fits, values_fit, fit_values, encode_length}

@@ -3,8 +3,10 @@
 -- specs/ReadExactly.antt. The notation, the words and the meanings are those of specs/Writer.antt.
 use Rattle.std.specs.Prelude.{◌≡◌, true, false, List, ◌↔◌, ℕ, ◌*◌, ◌≤◌, ◌<◌, length, take, drop}
 use Rattle.model.specs.Limits.{ROWS}
-use Rattle.door_write.specs.declared.{Entry.Entry, Dependencies.Dependencies}
-use Rattle.door_write.specs.declared.{WriteAnswer.WriteAnswer, ReadAnswer.ReadAnswer}
+use Rattle.door_write.specs.declared.Dependencies.{Dependencies}
+use Rattle.model.specs.declared.Entry.{Entry}
+use Rattle.door_write.specs.Answer.{WriteAnswer}
+use Rattle.door_write.specs.Read.{ReadAnswer}
 use Rattle.model.specs.Table.{row_of, source_of}
 use Rattle.model.specs.Header.{ROW_BYTES, version_at, agents_at, rows_at, places_of, row_bytes}
 use Rattle.door_write.specs.Encode.{row_list, rows_part, encode, entries_in, entries_of, dependencies_of}

@@ -20,6 +20,8 @@
 --   ask_accepts::accepts_both is `accept_answer (judge_both …)`
 --   door_pieces::pieces_fault is `pieces_fault f s`, row_part `row_part f s n`, row_place `row_place f s n`
 use Rattle.std.specs.Prelude.{◌≡◌, List, [], ◌⊎◌, ℕ, ◌+◌, ◌-◌, ◌*◌, ◌≤◌, ◌<◌, take, drop}
+use Rattle.std.specs.declared.option.Option.{Option}
+use Rattle.std.specs.declared.option.Option.TheVariants.{None, Some}
 use Rattle.model.specs.Limits.{STEPS}
 use Rattle.model.specs.Header.{ROW_BYTES, rows_at, rows_begin, row_bytes}
 use Rattle.model.specs.Reason.{Derived}
@@ -52,11 +54,11 @@ module _ (f s : List ℕ) (m k : ℕ) where
 module _ (f s : List ℕ) (n : ℕ) where
   -- where it begins: in the first piece, in the second, or nowhere, for a row that neither has and for a pair that is
   -- refused before 5
-  abbrev pub PlaceMeans : RowPlace → Type 0
-  PlaceMeans (RowPlace.First at) = RowsHeld f s × (n < rows_at f) × (at ≡ rows_begin f + ROW_BYTES * n)
-  PlaceMeans (RowPlace.Second at) =
+  abbrev pub PlaceMeans : Option RowPlace → Type 0
+  PlaceMeans (Some (RowPlace.First at)) = RowsHeld f s × (n < rows_at f) × (at ≡ rows_begin f + ROW_BYTES * n)
+  PlaceMeans (Some (RowPlace.Second at)) =
       RowsHeld f s × (rows_at f ≤ n) × (n < rows_both f s) × (at ≡ ROW_BYTES * (n - rows_at f))
-  PlaceMeans RowPlace.Neither = (RowsHeld f s → ⊥) ⊎ (rows_both f s ≤ n)
+  PlaceMeans None = (RowsHeld f s → ⊥) ⊎ (rows_both f s ≤ n)
 
   -- what row_part shows is the sixteen bytes of row n of the joined table, or nothing
   abbrev pub PartMeans : List ℕ → Type 0

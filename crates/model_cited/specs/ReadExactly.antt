@@ -10,7 +10,8 @@ use Rattle.model.specs.Table.{dependency_count}
 use Rattle.model.specs.Header.{dependency_bytes}
 use Rattle.model.specs.Refusal.{when_admitted}
 use Rattle.model_laws.specs.AdmissionLaws.{admitted_sound}
-use Rattle.door_write.specs.declared.{WriteAnswer.WriteAnswer, ReadAnswer.ReadAnswer}
+use Rattle.door_write.specs.Answer.{WriteAnswer}
+use Rattle.door_write.specs.Read.{ReadAnswer}
 use Rattle.door_write.specs.Encode.{row_list, encode, entries_of, dependencies_of}
 use Rattle.door_write.specs.Answer.{write_answer}
 use Rattle.door_write.specs.Parts.{PLACE_NUMBERS, agents_in, rows_in, dependencies_in, parts_answer, parts_table}

@@ -2,13 +2,13 @@
 use Rattle.std.specs.Prelude.{◌≡◌, List, ℕ, ◌+◌, ◌≤◌, ◌<◌}
 use Rattle.model.specs.Table.{row_of, source_of}
 use Rattle.model.specs.Header.{rows_at, row_bytes}
-use Rattle.door_step.specs.declared.{Stepped.Stepped}
+use Rattle.door_step.specs.Steps.{StepAnswer}
 use Rattle.model_promises.specs.Terms.{Fillable, Unfillable}
 use Rattle.model_cited.specs.Terms.{source}
 
 module _ (s : List ℕ) (i : ℕ) where
-  abbrev pub Means : Stepped → Type 0
-  Means (Stepped.Refused n j) = Unfillable s n j
-  Means (Stepped.Row r c next) = Fillable s × (i < rows_at s)
+  abbrev pub Means : StepAnswer → Type 0
+  Means (StepAnswer.Refused n j) = Unfillable s n j
+  Means (StepAnswer.Row r c next) = Fillable s × (i < rows_at s)
       × (r ≡ row_of (row_bytes s) i) × (c ≡ source (source_of (row_bytes s) i)) × (next ≡ i + 1)
-  Means (Stepped.End next) = Fillable s × (rows_at s ≤ i) × (next ≡ i)
+  Means (StepAnswer.End next) = Fillable s × (rows_at s ≤ i) × (next ≡ i)

@@ -13,13 +13,16 @@
 --
 -- From a function to its meaning: the contract of a function is an equation. This page speaks of its right side:
 --   door_step::step_from        is `stepped_at s i`: a reader opened on the table s, put at place i, and one step of it
---   door_step::open             says `admission true s` and gives a reader r with `Opens s r`
+--   door_step::open             gives a reader r with `Opens s r` of a table that a fill admits, and of any other its refusal
 --   door_step::RowReader::next  is `steps_of r i` at call i, counted from 0
 -- crates/stramashly_numbers/specs/Main.antt has the number that C gets for a step, and what its buffer then holds.
 use Rattle.std.specs.Prelude.{◌≡◌, List, ◌⊎◌, ℕ, ◌+◌, ◌≤◌, ◌<◌}
 use Rattle.model.specs.Table.{row_of, source_of}
 use Rattle.model.specs.Header.{rows_at, row_bytes}
-use Rattle.door_step.specs.declared.{Step.Step, Stepped.Stepped}
+use Rattle.std.specs.declared.option.Option.{Option}
+use Rattle.std.specs.declared.option.Option.TheVariants.{None, Some}
+use Rattle.model.specs.declared.Entry.{Entry}
+use Rattle.door_step.specs.Steps.{StepAnswer}
 use Rattle.model_promises.specs.Terms.{Fillable, Unfillable}
 use Rattle.model_cited.specs.Terms.{source}
 
@@ -28,14 +31,14 @@ use Rattle.model_cited.specs.Terms.{source}
 module _ (s : List ℕ) (i : ℕ) where
   -- a step from place i: what a fill refuses gets that refusal, number and row, at every place; else row i and the
   -- place after it, or past the last row the end, which stays where it is
-  abbrev pub StepMeans : Stepped → Type 0
-  StepMeans (Stepped.Refused n j) = Unfillable s n j
-  StepMeans (Stepped.Row r c next) = Fillable s × (i < rows_at s)
+  abbrev pub StepMeans : StepAnswer → Type 0
+  StepMeans (StepAnswer.Refused n j) = Unfillable s n j
+  StepMeans (StepAnswer.Row r c next) = Fillable s × (i < rows_at s)
       × (r ≡ row_of (row_bytes s) i) × (c ≡ source (source_of (row_bytes s) i)) × (next ≡ i + 1)
-  StepMeans (Stepped.End next) = Fillable s × (rows_at s ≤ i) × (next ≡ i)
+  StepMeans (StepAnswer.End next) = Fillable s × (rows_at s ≤ i) × (next ≡ i)
 
   -- call i of a reader that was opened on s: rows 0 onward, each once, then the end; of what a fill refuses, the end
-  abbrev pub NextMeans : Step → Type 0
-  NextMeans (Step.Row r c) =
-      Fillable s × (i < rows_at s) × (r ≡ row_of (row_bytes s) i) × (c ≡ source (source_of (row_bytes s) i))
-  NextMeans Step.End = (Fillable s × (rows_at s ≤ i)) ⊎ ((n : ℕ) × (j : ℕ) × Unfillable s n j)
+  abbrev pub NextMeans : Option Entry → Type 0
+  NextMeans (Some e) =
+      Fillable s × (i < rows_at s) × (e.row ≡ row_of (row_bytes s) i) × (e.source ≡ source (source_of (row_bytes s) i))
+  NextMeans None = (Fillable s × (rows_at s ≤ i)) ⊎ ((n : ℕ) × (j : ℕ) × Unfillable s n j)

@@ -1,6 +1,6 @@
 -- The words of Pieces.antt, Writer.antt and Stepping.antt. Those of the promises are in promises/specs/Terms.antt.
 use Rattle.std.specs.Prelude.{◌≡◌, true, false, List, [], ℕ, ◌%◌, ◌≤◌, ◌<◌, length, get_or}
-use Rattle.model.specs.declared.Admission.TheVariants.{Admitted}
+use Rattle.model.specs.Refusal.{Admitted}
 use Rattle.model.specs.declared.Source.{Source}
 use Rattle.model.specs.Limits.{ROWS}
 use Rattle.model.specs.Table.{row_of, sources_of}
@@ -9,7 +9,8 @@ use Rattle.model.specs.Table.{dependency_count, dependency_from, dependency_to}
 use Rattle.model.specs.Header.{dependency_bytes}
 use Rattle.model.specs.Refusal.{version_fits, limits_fit, length_fits, hosts_fault, admission}
 use Rattle.door_pieces.specs.Pieces.{rows_both, joined}
-use Rattle.door_write.specs.declared.{Entry.Entry, Dependencies.Dependencies}
+use Rattle.door_write.specs.declared.Dependencies.{Dependencies}
+use Rattle.model.specs.declared.Entry.{Entry}
 use Rattle.door_write.specs.Encode.{entry_at, encode}
 use Rattle.door_write.specs.Answer.{version_known, counts_fit, numbers_fit, dependencies_fit}
 use Rattle.door_write.specs.ValueLaws.{Fits}

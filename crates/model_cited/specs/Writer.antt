@@ -23,8 +23,10 @@
 --   door_write::read::read_entries is `entries_of s`, read_dependencies `dependencies_of s`
 -- crates/stramashly_numbers/specs/Main.antt has the number that C gets.
 use Rattle.std.specs.Prelude.{◌≡◌, true, false, List, ◌⊎◌, ℕ, ◌≤◌, length}
-use Rattle.door_write.specs.declared.{Entry.Entry, Dependencies.Dependencies}
-use Rattle.door_write.specs.declared.{WriteAnswer.WriteAnswer, ReadAnswer.ReadAnswer}
+use Rattle.door_write.specs.declared.Dependencies.{Dependencies}
+use Rattle.model.specs.declared.Entry.{Entry}
+use Rattle.door_write.specs.Answer.{WriteAnswer}
+use Rattle.door_write.specs.Read.{ReadAnswer}
 use Rattle.model.specs.Header.{version_at, agents_at, rows_at}
 use Rattle.model.specs.Table.{dependency_count}
 use Rattle.model.specs.Header.{dependency_bytes}

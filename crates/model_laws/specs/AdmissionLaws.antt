@@ -10,8 +10,11 @@ use borrow.Author.Tests.{eqb-true, leb-true, ltb-false, eq-eqb, le-ltb}
 use Rattle.finite.specs.Logic.{◌and◌, ◌or◌, split, which, not_both, not_out, or_cases}
 use Rattle.finite.specs.Below.{least, least_is, least_off}
 use Rattle.model.specs.declared.Row.{Row}
-use Rattle.model.specs.declared.Admission.{Admission}
-use Rattle.model.specs.declared.Admission.TheVariants.{Admitted, Refused}
+use Rattle.std.specs.declared.result.Result.{Result}
+use Rattle.std.specs.declared.result.Result.TheVariants.{Ok, Err}
+use Rattle.model.specs.declared.Counts.{Counts}
+use Rattle.model.specs.declared.Refusal.{Refusal}
+use Rattle.model.specs.Refusal.{Admission, Admitted, Refused, refusal, admission_answer}
 use Rattle.model.specs.Limits.{AGENTS, ROWS, DEPENDENCIES, LONGEST, BYTES}
 use Rattle.model.specs.Row.{RMW, CONTROL, AVAILABLE_HOST, BOTH, access, control, operation}
 use Rattle.model.specs.Scope.{DEVICE, agent_kind}
@@ -72,6 +75,29 @@ pub record AmongRight (blanks : Bool) (s : List ℕ) (i : ℕ) : Type 0 where
   pub run : unfit (table_of s) i ≡ false
 
 -- ---- an admission and its faults
+
+-- an admission as a program has it, read back
+abbrev admitted_in : Result Counts Refusal → Counts
+admitted_in (Ok k) = k
+admitted_in (Err r) = record { agents = 0; rows = 0 }
+
+abbrev refused_in : Result Counts Refusal → Refusal
+refused_in (Ok k) = refusal 0 0
+refused_in (Err r) = r
+
+abbrev is_admitted : Result Counts Refusal → ℕ
+is_admitted (Ok k) = 1
+is_admitted (Err r) = 0
+
+pub answer_admitted : (a : Admission) {k : Counts} → admission_answer a ≡ Ok k → a ≡ Admitted k.agents k.rows
+unfolding admission_answer
+answer_admitted (Admitted g n) e = ap (λ (k : Counts). Admitted k.agents k.rows) (ap admitted_in e)
+answer_admitted (Refused n i) e = let z : ◌≡◌ {A = ℕ} 0 1 = ap is_admitted e in absurd (omega arith)
+
+pub answer_refused : (a : Admission) {r : Refusal} → admission_answer a ≡ Err r → a ≡ Refused r.number r.row
+unfolding admission_answer
+answer_refused (Admitted g n) e = let z : ◌≡◌ {A = ℕ} 1 0 = ap is_admitted e in absurd (omega arith)
+answer_refused (Refused n i) e = ap (λ (r : Refusal). Refused r.number r.row) (ap refused_in e)
 
 -- a refusal is no admission
 pub not_admitted : {A : Type 0} {n i a r : ℕ} → Refused n i ≡ Admitted a r → A

@@ -6,7 +6,7 @@ use Rattle.std.proofs.Math.Decide.{dec_lt}
 use Rattle.finite.specs.Logic.{◌and◌, split, and_true, or_left, or_right, which, not_both, not_in, bool_ext}
 use Rattle.finite.specs.Below.{least, least_is, least_low}
 use Rattle.model.specs.declared.Row.{Row}
-use Rattle.model.specs.declared.Shared.TheVariants.{At, Nothing}
+use Rattle.std.specs.declared.option.Option.TheVariants.{None, Some}
 use Rattle.model.specs.Row.{access, writes, inside, touches, lowest_shared, is_shared, overlap}
 use Rattle.model.specs.Table.{Table}
 use Rattle.model.specs.Scope.{shader, agree, one_instance, shares, together, same_location, mutual_rows, mutually}
@@ -24,12 +24,12 @@ pub inside_out : (a m b : ℕ) → inside a m b ≡ true → (a ≤ b) × (b < a
 unfolding inside
 inside_out a m b e = (leb-true a b (split e).0, ltb-true b (a + m) (split e).1)
 
-some_shared : (b : Bool) (c : ℕ) → b ≡ true → is_shared (cond b (At c) Nothing) ≡ true
+some_shared : (b : Bool) (c : ℕ) → b ≡ true → is_shared (cond b (Some c) None) ≡ true
 unfolding is_shared
 some_shared true c e = refl
 some_shared false c e = e
 
-none_shared : (b : Bool) (c : ℕ) → b ≡ false → is_shared (cond b (At c) Nothing) ≡ false
+none_shared : (b : Bool) (c : ℕ) → b ≡ false → is_shared (cond b (Some c) None) ≡ false
 unfolding is_shared
 none_shared true c e = e
 none_shared false c e = refl
@@ -51,14 +51,14 @@ overlap_is r q = (λ e. forth e (which (ltb k m)), back)
     k : ℕ
     k = least m p
 
-    forth : is_shared (cond (ltb k m) (At (a + k)) Nothing) ≡ true → (ltb k m ≡ true) ⊎ (ltb k m ≡ false)
+    forth : is_shared (cond (ltb k m) (Some (a + k)) None) ≡ true → (ltb k m ≡ true) ⊎ (ltb k m ≡ false)
         → (b : ℕ) × (inside a m b ≡ true) × (inside q.start q.size b ≡ true)
     forth e (inl t) =
         let l = ltb-true k m t in
         (a + k, inside_in a m (a + k) (omega arith) (omega arith), (least_is p m).hit l)
     forth e (inr f) = not_both e (none_shared (ltb k m) (a + k) f)
 
-    back : ((b : ℕ) × (inside a m b ≡ true) × (inside q.start q.size b ≡ true)) → is_shared (cond (ltb k m) (At (a + k)) Nothing) ≡ true
+    back : ((b : ℕ) × (inside a m b ≡ true) × (inside q.start q.size b ≡ true)) → is_shared (cond (ltb k m) (Some (a + k)) None) ≡ true
     back w =
         let x = inside_out a m w.0 w.1 in
         let lo = x.0 in

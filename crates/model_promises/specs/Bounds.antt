@@ -5,11 +5,11 @@ use Rattle.std.proofs.Math.Bool.{true}
 use native.Mathlib.Omega.{arith}
 use Rattle.finite.specs.Logic.{split}
 use Rattle.finite.specs.Below.{least}
-use Rattle.model.specs.declared.Admission.{Admission}
-use Rattle.model.specs.declared.Admission.TheVariants.{Admitted, Refused}
+use Rattle.model.specs.Refusal.{Admission}
+use Rattle.model.specs.Refusal.{Admitted, Refused}
 use Rattle.model.specs.declared.Report.{Report}
-use Rattle.model.specs.declared.ReportAnswer.{ReportAnswer}
-use Rattle.model.specs.declared.ReportAnswer.TheVariants as told
+use Rattle.model.specs.Report.{Told}
+use Rattle.model.specs.Report as told
 use Rattle.model.specs.Limits.{ROWS, CLASS_SETS}
 use Rattle.model.specs.Row.{touches, access, operation}
 use Rattle.model.specs.Table.{Table, row_of, source_of, table_under, table_of, sources_of, decode}
@@ -197,12 +197,12 @@ SmallVerdict (Verdict.overwritten y z b) = (y < SMALL) × (z < SMALL) × (b < SM
 SmallVerdict (Verdict.race x y b) = (x < SMALL) × (y < SMALL) × (b < SMALL)
 SmallVerdict Verdict.race_free = Unit
 
-abbrev pub SmallReport : ReportAnswer → Type 0
-SmallReport (told.Refused n i) = (n < SMALL) × (i < SMALL)
-SmallReport (told.Cycle k) = k < SMALL
-SmallReport (told.Overwritten y z b) = (y < SMALL) × (z < SMALL) × (b < SMALL)
-SmallReport told.NoPairs = Unit
-SmallReport (told.Report r) = (0 < r.conflicting) × (r.mutuals + r.ordered + r.racing ≡ r.conflicting)
+abbrev pub SmallReport : Told → Type 0
+SmallReport (told.refused n i) = (n < SMALL) × (i < SMALL)
+SmallReport (told.cyclic k) = k < SMALL
+SmallReport (told.overwritten y z b) = (y < SMALL) × (z < SMALL) × (b < SMALL)
+SmallReport told.no_pairs = Unit
+SmallReport (told.reported r) = (0 < r.conflicting) × (r.mutuals + r.ordered + r.racing ≡ r.conflicting)
     × (r.mutuals < SMALL) × (r.ordered < SMALL) × (r.racing < SMALL)
 
 -- of a table of so many rows
@@ -240,7 +240,7 @@ module _ (chains : Bool) (s : List ℕ) (work buffer : ℕ) where
       omega arith
 
   -- the counts of a report
-  pub counts_small : (r : Report) → report chains s work buffer ≡ told.Report r → (r.mutuals < SMALL) × (r.ordered < SMALL) × (r.racing < SMALL)
+  pub counts_small : (r : Report) → report chains s work buffer ≡ told.reported r → (r.mutuals < SMALL) × (r.ordered < SMALL) × (r.racing < SMALL)
   counts_small r e =
       let h = (reports.report_exactly chains s work buffer r).0 e in
       let c = h.3.conflicting in
@@ -249,20 +249,20 @@ module _ (chains : Bool) (s : List ℕ) (work buffer : ℕ) where
       let a = reports.adds_up chains s work buffer r e in
       (omega arith, omega arith, omega arith)
 
-  pub report_small : (a : ReportAnswer) → report chains s work buffer ≡ a → SmallReport a
-  report_small (told.Refused n i) e = check_refusal s work buffer n i ((reports.refused_exactly chains s work buffer n i).0 e)
-  report_small (told.Cycle k) e =
+  pub report_small : (a : Told) → report chains s work buffer ≡ a → SmallReport a
+  report_small (told.refused n i) e = check_refusal s work buffer n i ((reports.refused_exactly chains s work buffer n i).0 e)
+  report_small (told.cyclic k) e =
       let h = (reports.cycle_exactly chains s work buffer k).0 e in
       let m = rows_small s (well_fillable s h.0.1) chains in
       let w = h.1 in
       let l = w.2.0.rows in
       let q = w.3 in
       omega arith
-  report_small (told.Overwritten y z b) e =
+  report_small (told.overwritten y z b) e =
       let h = (reports.overwritten_exactly chains s work buffer y z b).0 e in
       overwrite_small s (well_fillable s h.0.1) chains (sources_of s) y z b h.2
-  report_small told.NoPairs e = tt
-  report_small (told.Report r) e =
+  report_small told.no_pairs e = tt
+  report_small (told.reported r) e =
       let c = counts_small r e in
       (reports.conflicting_some chains s work buffer r e, reports.adds_up chains s work buffer r e, c.0, c.1, c.2)
 

@@ -1,25 +1,30 @@
 -- What a caller of the functions gets, to be read like Main.antt: each case of an answer, and what is left in the
 -- buffers.
-use Rattle.std.specs.Prelude.{◌≡◌, List, ◌++◌, ◌↔◌, ℕ, length, drop, replicate}
+use Rattle.std.specs.Prelude.{◌≡◌, true, false, List, ◌++◌, ◌↔◌, ℕ, length, drop, replicate}
 use Rattle.finite.specs.Lists.{tabulate}
+use Rattle.std.specs.declared.result.Result.{Result}
+use Rattle.std.specs.declared.result.Result.TheVariants.{Ok, Err}
 use Rattle.model.specs.declared.{CheckAnswer.CheckAnswer, FillAnswer.FillAnswer}
-use Rattle.model.specs.declared.{DeriveAnswer.DeriveAnswer, AcceptAnswer.AcceptAnswer}
+use Rattle.model.specs.declared.DeriveAnswer.{DeriveAnswer}
 use Rattle.model.specs.Limits.{WORK, CYCLE}
+use Rattle.model.specs.Refusal.{refusal}
 use Rattle.model.specs.Check.{Verdict, check_answer, cycle_number, cycle_after, work_after}
 use Rattle.model.specs.Fill.{Outcome, fill_answer, sources_after}
 use Rattle.model.specs.Fill as Fill
 use Rattle.model.specs.Reason.{Judged, Derived, accept_answer, derive_answer, chain_after}
 use Rattle.model.specs.Reason as Derivation
+use Rattle.model.specs.declared.{Report.Report, ReportAnswer.ReportAnswer}
+use Rattle.model.specs.Report.{Told, told_answer}
 use Rattle.model_promises.specs.Answers
 
--- ==== Each answer's numbers: a case is given exactly for what it is named after. A report's are in Main.antt
+-- ==== Each answer's numbers: a case is given exactly for what it is named after
 
-pub check_cases : (v : Verdict) → ((n i : ℕ) → (check_answer v ≡ CheckAnswer.Refused n i) ↔ (v ≡ Verdict.refused n i))
-    × ((k : ℕ) → (check_answer v ≡ CheckAnswer.Cycle k)
+pub check_cases : (v : Verdict) → ((n i : ℕ) → (check_answer v ≡ Err (refusal n i)) ↔ (v ≡ Verdict.refused n i))
+    × ((k : ℕ) → (check_answer v ≡ Ok (CheckAnswer.Cycle k))
     ↔ ((rows : List ℕ) × (edges : List ℕ) × (v ≡ Verdict.cyclic rows edges) × (length rows ≡ k)))
-    × ((y z b : ℕ) → (check_answer v ≡ CheckAnswer.Overwritten y z b) ↔ (v ≡ Verdict.overwritten y z b))
-    × ((x y b : ℕ) → (check_answer v ≡ CheckAnswer.Race x y b) ↔ (v ≡ Verdict.race x y b))
-    × ((check_answer v ≡ CheckAnswer.RaceFree) ↔ (v ≡ Verdict.race_free))
+    × ((y z b : ℕ) → (check_answer v ≡ Ok (CheckAnswer.Overwritten (record { reader = y; writer = z; byte = b }))) ↔ (v ≡ Verdict.overwritten y z b))
+    × ((x y b : ℕ) → (check_answer v ≡ Ok (CheckAnswer.Race (record { first = x; second = y; byte = b }))) ↔ (v ≡ Verdict.race x y b))
+    × ((check_answer v ≡ Ok CheckAnswer.RaceFree) ↔ (v ≡ Verdict.race_free))
 check_cases v = (
   Answers.checks_refused v,
   Answers.checks_cycle v,
@@ -28,24 +33,38 @@ check_cases v = (
   Answers.checks_free v,
 )
 
-pub fill_cases : (o : Outcome) → ((n i : ℕ) → (fill_answer o ≡ FillAnswer.Refused n i) ↔ (o ≡ Outcome.refused n i))
-    × ((x y b : ℕ) → (fill_answer o ≡ FillAnswer.Race x y b) ↔ (o ≡ Outcome.race x y b))
-    × ((fill_answer o ≡ FillAnswer.None) ↔ (o ≡ Outcome.none))
-    × ((fill_answer o ≡ FillAnswer.Filled) ↔ ((l : List ℕ) × (o ≡ Outcome.filled l)))
+pub fill_cases : (o : Outcome) → ((n i : ℕ) → (fill_answer o ≡ Err (refusal n i)) ↔ (o ≡ Outcome.refused n i))
+    × ((x y b : ℕ) → (fill_answer o ≡ Ok (FillAnswer.Race (record { first = x; second = y; byte = b }))) ↔ (o ≡ Outcome.race x y b))
+    × ((fill_answer o ≡ Ok FillAnswer.None) ↔ (o ≡ Outcome.none))
+    × ((fill_answer o ≡ Ok FillAnswer.Filled) ↔ ((l : List ℕ) × (o ≡ Outcome.filled l)))
 fill_cases o = (Answers.fills_refused o, Answers.fills_race o, Answers.fills_none o, Answers.fills_filled o)
 
-pub derive_cases : (d : Derived) → ((n i : ℕ) → (derive_answer d ≡ DeriveAnswer.Refused n i) ↔ (d ≡ Derived.refused n i))
-    × ((derive_answer d ≡ DeriveAnswer.ProgramOrder) ↔ (d ≡ Derived.word))
-    × ((derive_answer d ≡ DeriveAnswer.NotBefore) ↔ (d ≡ Derived.not_before))
-    × ((c k : ℕ) → (derive_answer d ≡ DeriveAnswer.Chain c k)
+pub derive_cases : (d : Derived) → ((n i : ℕ) → (derive_answer d ≡ Err (refusal n i)) ↔ (d ≡ Derived.refused n i))
+    × ((derive_answer d ≡ Ok DeriveAnswer.ProgramOrder) ↔ (d ≡ Derived.word))
+    × ((derive_answer d ≡ Ok DeriveAnswer.NotBefore) ↔ (d ≡ Derived.not_before))
+    × ((c k : ℕ) → (derive_answer d ≡ Ok (DeriveAnswer.Chain c k))
     ↔ ((l : List ℕ) × (d ≡ Derived.chained c l) × (length l ≡ k)))
 derive_cases d =
     (Answers.derives_refused d, Answers.derives_program_order d, Answers.derives_not_before d, Answers.derives_chain d)
 
-pub accept_cases : (j : Judged) → ((n i : ℕ) → (accept_answer j ≡ AcceptAnswer.Refused n i) ↔ (j ≡ Judged.refused n i))
-    × ((accept_answer j ≡ AcceptAnswer.Accepted) ↔ (j ≡ Judged.accepted))
-    × ((accept_answer j ≡ AcceptAnswer.NotAccepted) ↔ (j ≡ Judged.not_accepted))
+pub accept_cases : (j : Judged) → ((n i : ℕ) → (accept_answer j ≡ Err (refusal n i)) ↔ (j ≡ Judged.refused n i))
+    × ((accept_answer j ≡ Ok true) ↔ (j ≡ Judged.accepted))
+    × ((accept_answer j ≡ Ok false) ↔ (j ≡ Judged.not_accepted))
 accept_cases j = (Answers.reads_refused j, Answers.reads_accepted j, Answers.reads_not_accepted j)
+
+pub report_cases : (a : Told) → ((n i : ℕ) → (told_answer a ≡ Err (refusal n i)) ↔ (a ≡ Told.refused n i))
+    × ((k : ℕ) → (told_answer a ≡ Ok (ReportAnswer.Cycle k)) ↔ (a ≡ Told.cyclic k))
+    × ((y z b : ℕ) → (told_answer a ≡ Ok (ReportAnswer.Overwritten (record { reader = y; writer = z; byte = b })))
+    ↔ (a ≡ Told.overwritten y z b))
+    × ((told_answer a ≡ Ok ReportAnswer.NoPairs) ↔ (a ≡ Told.no_pairs))
+    × ((r : Report) → (told_answer a ≡ Ok (ReportAnswer.Report r)) ↔ (a ≡ Told.reported r))
+report_cases a = (
+  Answers.tells_refused a,
+  Answers.tells_cycle a,
+  Answers.tells_overwritten a,
+  Answers.tells_none a,
+  Answers.tells_report a,
+)
 
 -- ==== What is left in the lent buffers, of which w is the work area and c the other
 --

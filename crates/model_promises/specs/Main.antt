@@ -20,7 +20,8 @@
 -- Throughout, s is the table, any bytes at all; `chains` the switch; work and buffer the lengths of the lent buffers.
 -- `Bytes s`, which a fill's meaning asks for, says that its numbers are bytes; the contract of every fill ensures it.
 use Rattle.std.specs.Prelude.{◌≡◌, Bool, true, false, List, [], ◌++◌, ◌⊎◌, ◌↔◌, ℕ, ◌<◌, length, drop, replicate}
-use Rattle.model.specs.declared.{Row.Row, Reason.Reason, ReportAnswer.ReportAnswer}
+use Rattle.model.specs.declared.{Row.Row, Reason.Reason}
+use Rattle.model.specs.Report.{Told}
 use Rattle.model.specs.Limits.{WORK, CYCLE, SOURCES, STEPS}
 use Rattle.model.specs.Table.{Table, table_under, table_of, sources_of}
 use Rattle.model.specs.Header.{rows_at}
@@ -80,22 +81,22 @@ module _ (chains : Bool) (s : List ℕ) (work buffer : ℕ) where
   fill_means bytes Outcome.none = beside.FillExactly.none_exactly chains s work buffer bytes
 
   -- a report: `Counted` says of which pairs each count is, that they add up, and what the share is
-  abbrev pub ReportMeans : ReportAnswer → Type 0
-  ReportMeans (ReportAnswer.Refused n i) = CheckRefuses s work buffer n i
-  ReportMeans (ReportAnswer.Cycle k) = CheckHears s work buffer
+  abbrev pub ReportMeans : Told → Type 0
+  ReportMeans (Told.refused n i) = CheckRefuses s work buffer n i
+  ReportMeans (Told.cyclic k) = CheckHears s work buffer
       × ((rows : List ℕ) × (edges : List ℕ) × CycleShown t source rows edges × (length rows ≡ k))
-  ReportMeans (ReportAnswer.Overwritten y z b) =
+  ReportMeans (Told.overwritten y z b) =
       CheckHears s work buffer × (Cyclic t source → ⊥) × FirstOverwrite t source y z b
-  ReportMeans ReportAnswer.NoPairs = CheckHears s work buffer × Consistent t source × NoConflict t
-  ReportMeans (ReportAnswer.Report r) =
+  ReportMeans Told.no_pairs = CheckHears s work buffer × Consistent t source × NoConflict t
+  ReportMeans (Told.reported r) =
       CheckHears s work buffer × Consistent t source × SomeConflict t × Counted t r
 
-  pub report_means : (a : ReportAnswer) → (report chains s work buffer ≡ a) ↔ ReportMeans a
-  report_means (ReportAnswer.Refused n i) = beside.ReportExactly.refused_exactly chains s work buffer n i
-  report_means (ReportAnswer.Cycle k) = beside.ReportExactly.cycle_exactly chains s work buffer k
-  report_means (ReportAnswer.Overwritten y z b) = beside.ReportExactly.overwritten_exactly chains s work buffer y z b
-  report_means ReportAnswer.NoPairs = beside.ReportExactly.none_exactly chains s work buffer
-  report_means (ReportAnswer.Report r) = beside.ReportExactly.report_exactly chains s work buffer r
+  pub report_means : (a : Told) → (report chains s work buffer ≡ a) ↔ ReportMeans a
+  report_means (Told.refused n i) = beside.ReportExactly.refused_exactly chains s work buffer n i
+  report_means (Told.cyclic k) = beside.ReportExactly.cycle_exactly chains s work buffer k
+  report_means (Told.overwritten y z b) = beside.ReportExactly.overwritten_exactly chains s work buffer y z b
+  report_means Told.no_pairs = beside.ReportExactly.none_exactly chains s work buffer
+  report_means (Told.reported r) = beside.ReportExactly.report_exactly chains s work buffer r
 
 module _ (s : List ℕ) (m k : ℕ) where
   -- the reader of a derivation that moment m happens before moment k: reason r with the steps l
@@ -162,7 +163,7 @@ demand_1_fill = beside.FillExactly.fill_demand_1
 
 pub demand_1_report : (chains : Bool) (s w c : List ℕ) → let a = report chains s (length w) (length c) in
     let v = check chains s (length w) (length c) in
-    ((n : ℕ) × (i : ℕ) × (a ≡ ReportAnswer.Refused n i) × CheckRefuses s (length w) (length c) n i
+    ((n : ℕ) × (i : ℕ) × (a ≡ Told.refused n i) × CheckRefuses s (length w) (length c) n i
     × (work_after v w ≡ w) × (cycle_after v c ≡ c))
     ⊎ (CheckHears s (length w) (length c)
     × ((w' c' : List ℕ) → Fit CYCLE (length w') (length c') → report chains s (length w') (length c') ≡ a)

@@ -2,7 +2,7 @@
 -- whatever they hold, the counts and the share. Assumes nothing.
 use Rattle.std.proofs.Math.Path.{◌≡◌, refl, sym, ap}
 use Rattle.std.proofs.Common.{◌∙◌, inl, inr, arith, ltb-true, le-ltb, eqb-true, eq-eqb, ne_eqb}
-use Rattle.std.specs.Prelude.{Bool, cond, ◌⊎◌, ◌↔◌, ℕ, zero, suc, ◌+◌, ◌≤◌, ◌<◌, length, eqb}
+use Rattle.std.specs.Prelude.{Bool, cond, ◌⊎◌, ◌↔◌, ℕ, zero, suc, ◌+◌, ◌≤◌, ◌<◌, length, eqb, Float}
 use Rattle.std.proofs.Math.Bool.{true, false}
 use mathlib.Core.List.{List}
 use Rattle.std.proofs.Math.Dec.{ltb}
@@ -11,11 +11,11 @@ use Rattle.std.specs.Float.Ieee.{round}
 use Rattle.std.proofs.lemmas.Bool.{eqb-false}
 use Rattle.finite.specs.Logic.{which, split, and_true, not_both, not_so, bool_ext}
 use Rattle.finite.specs.Count.{count_pairs, pairs_cong}
-use Rattle.model.specs.declared.Share.{Share}
-use Rattle.model.specs.declared.Share.TheVariants as share
+use Rattle.std.specs.declared.option.Option.{Option}
+use Rattle.std.specs.declared.option.Option.TheVariants.{None, Some}
 use Rattle.model.specs.declared.Report.{Report}
-use Rattle.model.specs.declared.ReportAnswer.{ReportAnswer}
-use Rattle.model.specs.declared.ReportAnswer.TheVariants as told
+use Rattle.model.specs.Report.{Told}
+use Rattle.model.specs.Report as told
 use Rattle.model.specs.Limits.{CYCLE, ROWS}
 use Rattle.model.specs.Table.{Table, table_under, sources_of, decode}
 use Rattle.model.specs.Scope.{mutually}
@@ -36,40 +36,40 @@ use Rattle.model_promises.specs.Check.{same_verdict}
 
 -- ---- definitions: which case of an answer was given, and what it carries
 
-abbrev pub tag : ReportAnswer → ℕ
-tag (told.Refused n i) = 0
-tag (told.Cycle k) = 1
-tag (told.Overwritten y z b) = 2
-tag told.NoPairs = 3
-tag (told.Report r) = 4
+abbrev pub tag : Told → ℕ
+tag (told.refused n i) = 0
+tag (told.cyclic k) = 1
+tag (told.overwritten y z b) = 2
+tag told.no_pairs = 3
+tag (told.reported r) = 4
 
-abbrev first : ReportAnswer → ℕ
-first (told.Refused n i) = n
-first (told.Cycle k) = k
-first (told.Overwritten y z b) = y
-first told.NoPairs = 0
-first (told.Report r) = 0
+abbrev first : Told → ℕ
+first (told.refused n i) = n
+first (told.cyclic k) = k
+first (told.overwritten y z b) = y
+first told.no_pairs = 0
+first (told.reported r) = 0
 
-abbrev second : ReportAnswer → ℕ
-second (told.Refused n i) = i
-second (told.Cycle k) = 0
-second (told.Overwritten y z b) = z
-second told.NoPairs = 0
-second (told.Report r) = 0
+abbrev second : Told → ℕ
+second (told.refused n i) = i
+second (told.cyclic k) = 0
+second (told.overwritten y z b) = z
+second told.no_pairs = 0
+second (told.reported r) = 0
 
-abbrev third : ReportAnswer → ℕ
-third (told.Refused n i) = 0
-third (told.Cycle k) = 0
-third (told.Overwritten y z b) = b
-third told.NoPairs = 0
-third (told.Report r) = 0
+abbrev third : Told → ℕ
+third (told.refused n i) = 0
+third (told.cyclic k) = 0
+third (told.overwritten y z b) = b
+third told.no_pairs = 0
+third (told.reported r) = 0
 
-abbrev pub inside : Report → ReportAnswer → Report
-inside d (told.Refused n i) = d
-inside d (told.Cycle k) = d
-inside d (told.Overwritten y z b) = d
-inside d told.NoPairs = d
-inside d (told.Report r) = r
+abbrev pub inside : Report → Told → Report
+inside d (told.refused n i) = d
+inside d (told.cyclic k) = d
+inside d (told.overwritten y z b) = d
+inside d told.no_pairs = d
+inside d (told.reported r) = r
 
 abbrev raced : Verdict → ℕ
 raced (refused n i) = 0
@@ -87,9 +87,9 @@ counted_tag : (t : Table) → 3 ≤ tag (report_on t)
 unfolding report_on with_share
 counted_tag t = go (share_of (racing t) (conflicting t))
   where
-    go : (h : Share) → 3 ≤ tag (with_share h t)
-    go share.NoPairs = omega arith
-    go (share.Of f) = omega arith
+    go : (h : Option Float) → 3 ≤ tag (with_share h t)
+    go None = omega arith
+    go (Some f) = omega arith
 
 -- ---- check's answer, and no report
 
@@ -102,11 +102,11 @@ same_report chains s work buffer work' buffer' h k =
 
 module _ (chains : Bool) (s : List ℕ) (work buffer : ℕ) where
   -- whatever the table and the buffers: refused with a number and row exactly where a check refuses with them
-  pub says_refused : (n i : ℕ) → (report chains s work buffer ≡ told.Refused n i) ↔ (check chains s work buffer ≡ refused n i)
+  pub says_refused : (n i : ℕ) → (report chains s work buffer ≡ told.refused n i) ↔ (check chains s work buffer ≡ refused n i)
   unfolding report report_answer check_answer
   says_refused n i = (λ e. forth (check chains s work buffer) e, λ e. rw e refl)
     where
-      forth : (v : Verdict) → report_answer (check_answer v) (table_under chains s) ≡ told.Refused n i → v ≡ refused n i
+      forth : (v : Verdict) → report_answer (check_answer v) (table_under chains s) ≡ told.refused n i → v ≡ refused n i
       forth (refused m j) e = rw (ap first e, ap second e) refl
       forth (cyclic r d) e = absurd (let z : ◌≡◌ {A = ℕ} 1 0 = ap tag e in omega arith)
       forth (overwritten y z b) e = absurd (let z : ◌≡◌ {A = ℕ} 2 0 = ap tag e in omega arith)
@@ -114,12 +114,12 @@ module _ (chains : Bool) (s : List ℕ) (work buffer : ℕ) where
       forth race_free e = absurd (let z : tag (report_on (table_under chains s)) ≡ 0 = ap tag e in omega (arith, counted_tag (table_under chains s)))
 
   -- a cycle of so many rows exactly where a check shows one; its numbers are left where a check leaves them
-  pub says_cycle : (k : ℕ) → (report chains s work buffer ≡ told.Cycle k)
+  pub says_cycle : (k : ℕ) → (report chains s work buffer ≡ told.cyclic k)
       ↔ ((rows : List ℕ) × (edges : List ℕ) × (check chains s work buffer ≡ cyclic rows edges) × (length rows ≡ k))
   unfolding report report_answer check_answer
   says_cycle k = (λ e. forth (check chains s work buffer) e, λ e. let l = e.3 in rw (e.2, l) refl)
     where
-      forth : (v : Verdict) → report_answer (check_answer v) (table_under chains s) ≡ told.Cycle k
+      forth : (v : Verdict) → report_answer (check_answer v) (table_under chains s) ≡ told.cyclic k
           → (rows : List ℕ) × (edges : List ℕ) × (v ≡ cyclic rows edges) × (length rows ≡ k)
       forth (refused m j) e = absurd (let z : ◌≡◌ {A = ℕ} 0 1 = ap tag e in omega arith)
       forth (cyclic r d) e = (r, d, refl, ap first e)
@@ -127,11 +127,11 @@ module _ (chains : Bool) (s : List ℕ) (work buffer : ℕ) where
       forth (race x y b) e = absurd (let z : tag (report_on (table_under chains s)) ≡ 1 = ap tag e in omega (arith, counted_tag (table_under chains s)))
       forth race_free e = absurd (let z : tag (report_on (table_under chains s)) ≡ 1 = ap tag e in omega (arith, counted_tag (table_under chains s)))
 
-  pub says_overwritten : (y z b : ℕ) → (report chains s work buffer ≡ told.Overwritten y z b) ↔ (check chains s work buffer ≡ overwritten y z b)
+  pub says_overwritten : (y z b : ℕ) → (report chains s work buffer ≡ told.overwritten y z b) ↔ (check chains s work buffer ≡ overwritten y z b)
   unfolding report report_answer check_answer
   says_overwritten y z b = (λ e. forth (check chains s work buffer) e, λ e. rw e refl)
     where
-      forth : (v : Verdict) → report_answer (check_answer v) (table_under chains s) ≡ told.Overwritten y z b → v ≡ overwritten y z b
+      forth : (v : Verdict) → report_answer (check_answer v) (table_under chains s) ≡ told.overwritten y z b → v ≡ overwritten y z b
       forth (refused m j) e = absurd (let z : ◌≡◌ {A = ℕ} 0 2 = ap tag e in omega arith)
       forth (cyclic r d) e = absurd (let z : ◌≡◌ {A = ℕ} 1 2 = ap tag e in omega arith)
       forth (overwritten u v c) e = rw (ap first e, ap second e, ap third e) refl
@@ -176,27 +176,27 @@ module _ (chains : Bool) (s : List ℕ) (work buffer : ℕ) (fit : buffers_fit C
         go true = refl
         go false = refl
 
-    none_told : conflicting t ≡ 0 → report chains s work buffer ≡ told.NoPairs
+    none_told : conflicting t ≡ 0 → report chains s work buffer ≡ told.no_pairs
     unfolding report_on share_of with_share
     none_told e = reported ∙ rw (eq-eqb (conflicting t) 0 e) refl
 
-    some_told : (conflicting t ≡ 0 → ⊥) → report chains s work buffer ≡ told.Report (report_of t (quotient (racing t) (conflicting t)))
+    some_told : (conflicting t ≡ 0 → ⊥) → report chains s work buffer ≡ told.reported (report_of t (quotient (racing t) (conflicting t)))
     unfolding report_on share_of with_share
     some_told f = reported ∙ rw (ne_eqb (conflicting t) 0 f) refl
 
     -- no pairs is said exactly when no pair conflicts; it is another answer than any report
-    pub says_none : (report chains s work buffer ≡ told.NoPairs) ↔ ((x y : ℕ) → x < y → y < t.rows → conflict t x y ≡ false)
+    pub says_none : (report chains s work buffer ≡ told.no_pairs) ↔ ((x y : ℕ) → x < y → y < t.rows → conflict t x y ≡ false)
     says_none = (λ e. (conflicting_none t).0 (none e (which (eqb (conflicting t) 0))), λ f. none_told ((conflicting_none t).1 f))
       where
-        none : report chains s work buffer ≡ told.NoPairs → (eqb (conflicting t) 0 ≡ true) ⊎ (eqb (conflicting t) 0 ≡ false) → conflicting t ≡ 0
+        none : report chains s work buffer ≡ told.no_pairs → (eqb (conflicting t) 0 ≡ true) ⊎ (eqb (conflicting t) 0 ≡ false) → conflicting t ≡ 0
         none e (inl h) = eqb-true (conflicting t) 0 h
         none e (inr h) = absurd (let z : ◌≡◌ {A = ℕ} 4 3 = ap tag (sym (some_told (eqb-false (conflicting t) 0 h)) ∙ e) in omega arith)
 
     -- some pair conflicts: there is a report
-    pub says_report : ((x : ℕ) × (y : ℕ) × (x < y) × (y < t.rows) × (conflict t x y ≡ true)) → (r : Report) × (report chains s work buffer ≡ told.Report r)
+    pub says_report : ((x : ℕ) × (y : ℕ) × (x < y) × (y < t.rows) × (conflict t x y ≡ true)) → (r : Report) × (report chains s work buffer ≡ told.reported r)
     says_report p = (_, some_told (λ e. not_both p.4 ((conflicting_none t).0 e p.0 p.1 p.2 p.3)))
 
-    module _ (r : Report) (said : report chains s work buffer ≡ told.Report r) where
+    module _ (r : Report) (said : report chains s work buffer ≡ told.reported r) where
       some : conflicting t ≡ 0 → ⊥
       some e = let z : ◌≡◌ {A = ℕ} 3 4 = ap tag (sym (none_told e) ∙ said) in omega arith
 

@@ -9,8 +9,8 @@ use Rattle.finite.specs.Logic.{which, split, and_true, not_both, bool_ext}
 use Rattle.finite.specs.Below.{any_below, any_out, any_off}
 use Rattle.finite.specs.Count.{count_pairs, pairs_cong, pairs_zero}
 use Rattle.model.specs.declared.Report.{Report}
-use Rattle.model.specs.declared.ReportAnswer.{ReportAnswer}
-use Rattle.model.specs.declared.ReportAnswer.TheVariants as told
+use Rattle.model.specs.Report.{Told}
+use Rattle.model.specs.Report as told
 use Rattle.model.specs.Limits.{CYCLE, WORK}
 use Rattle.model.specs.Table.{Table, table_under, sources_of, decode}
 use Rattle.model.specs.Scope.{mutually}
@@ -73,7 +73,7 @@ module _ (chains : Bool) (s : List ℕ) (work buffer : ℕ) where
   abbrev source : ℕ → ℕ
   source = sources_of s
 
-  abbrev said : ReportAnswer
+  abbrev said : Told
   said = report chains s work buffer
 
   sized : WellFormed s → Sized t
@@ -81,7 +81,7 @@ module _ (chains : Bool) (s : List ℕ) (work buffer : ℕ) where
   sized well i l = size_fits (admitted_sound false s well) i l
 
   -- what an answer that counts tells of the table and the buffers
-  pub heard : (a : ReportAnswer) → 3 ≤ page.tag a → said ≡ a → CheckHears s work buffer × Consistent t source
+  pub heard : (a : Told) → 3 ≤ page.tag a → said ≡ a → CheckHears s work buffer × Consistent t source
   heard a l e = go (check chains s work buffer) refl
     where
       go : (v : Verdict) → check chains s work buffer ≡ v → CheckHears s work buffer × Consistent t source
@@ -98,13 +98,13 @@ module _ (chains : Bool) (s : List ℕ) (work buffer : ℕ) where
 
   -- ---- each answer, exactly
 
-  pub refused_exactly : (n i : ℕ) → (said ≡ told.Refused n i) ↔ CheckRefuses s work buffer n i
+  pub refused_exactly : (n i : ℕ) → (said ≡ told.refused n i) ↔ CheckRefuses s work buffer n i
   refused_exactly n i =
       let a = page.says_refused chains s work buffer n i in
       let b = checked.refused_exactly chains s work buffer n i in
       (λ e. b.0 (a.0 e), λ h. a.1 (b.1 h))
 
-  pub cycle_exactly : (k : ℕ) → (said ≡ told.Cycle k)
+  pub cycle_exactly : (k : ℕ) → (said ≡ told.cyclic k)
       ↔ (CheckHears s work buffer × ((rows : List ℕ) × (edges : List ℕ) × CycleShown t source rows edges × (length rows ≡ k)))
   cycle_exactly k = (
     λ e.
@@ -116,20 +116,20 @@ module _ (chains : Bool) (s : List ℕ) (work buffer : ℕ) where
         (page.says_cycle chains s work buffer k).1 (w.0, w.1, (checked.cyclic_exactly chains s work buffer w.0 w.1).1 (h.0, w.2), w.3),
   )
 
-  pub overwritten_exactly : (y z b : ℕ) → (said ≡ told.Overwritten y z b)
+  pub overwritten_exactly : (y z b : ℕ) → (said ≡ told.overwritten y z b)
       ↔ (CheckHears s work buffer × (Cyclic t source → ⊥) × FirstOverwrite t source y z b)
   overwritten_exactly y z b =
       let p = page.says_overwritten chains s work buffer y z b in
       let q = checked.overwritten_exactly chains s work buffer y z b in
       (λ e. q.0 (p.0 e), λ h. p.1 (q.1 h))
 
-  pub none_exactly : (said ≡ told.NoPairs) ↔ (CheckHears s work buffer × Consistent t source × NoConflict t)
+  pub none_exactly : (said ≡ told.no_pairs) ↔ (CheckHears s work buffer × Consistent t source × NoConflict t)
   none_exactly = (
     λ e. let h = heard _ (omega arith) e in (h.0, h.1, (page.says_none chains s work buffer h.0.0 h.0.1 h.1).0 e),
     λ h. (page.says_none chains s work buffer h.0.0 h.0.1 h.1).1 h.2,
   )
 
-  counted : (fit : Fit CYCLE work buffer) (well : WellFormed s) (keeps : Consistent t source) (r : Report) → said ≡ told.Report r → Counted t r
+  counted : (fit : Fit CYCLE work buffer) (well : WellFormed s) (keeps : Consistent t source) (r : Report) → said ≡ told.reported r → Counted t r
   unfolding conflict_mutual
   counted fit well keeps r e =
       record {
@@ -153,26 +153,26 @@ module _ (chains : Bool) (s : List ℕ) (work buffer : ℕ) where
       raced : (x y : ℕ) → x < y → y < t.rows → (races t x y ≡ true) ↔ Races t x y
       raced x y l m = races_is t (sized well) x y (omega arith)
 
-  pub report_exactly : (r : Report) → (said ≡ told.Report r) ↔ (CheckHears s work buffer × Consistent t source × SomeConflict t × Counted t r)
+  pub report_exactly : (r : Report) → (said ≡ told.reported r) ↔ (CheckHears s work buffer × Consistent t source × SomeConflict t × Counted t r)
   report_exactly r = (
     λ e.
         let h = heard _ (omega arith) e in
         (h.0, h.1, some h.0.0 h.0.1 h.1 e (search_pairs (conflict t) t.rows), counted h.0.0 h.0.1 h.1 r e),
     λ h.
         let q = page.says_report chains s work buffer h.0.0 h.0.1 h.1 h.2 in
-        q.1 ∙ ap told.Report (counted_one t q.0 r (counted h.0.0 h.0.1 h.1 q.0 q.1) h.3),
+        q.1 ∙ ap told.reported (counted_one t q.0 r (counted h.0.0 h.0.1 h.1 q.0 q.1) h.3),
   )
     where
-      some : Fit CYCLE work buffer → WellFormed s → Consistent t source → said ≡ told.Report r → SomeConflict t ⊎ NoConflict t → SomeConflict t
+      some : Fit CYCLE work buffer → WellFormed s → Consistent t source → said ≡ told.reported r → SomeConflict t ⊎ NoConflict t → SomeConflict t
       some fit well keeps e (inl p) = p
       some fit well keeps e (inr n) =
           absurd (let z : ◌≡◌ {A = ℕ} 3 4 = ap page.tag (sym ((page.says_none chains s work buffer fit well keeps).1 n) ∙ e) in omega arith)
 
   -- ---- more of a report
 
-  module _ (r : Report) (e : said ≡ told.Report r) where
+  module _ (r : Report) (e : said ≡ told.reported r) where
     abbrev h : CheckHears s work buffer × Consistent t source
-    h = heard (told.Report r) (omega arith) e
+    h = heard (told.reported r) (omega arith) e
 
     pub adds_up : r.mutuals + r.ordered + r.racing ≡ r.conflicting
     adds_up = page.sums chains s work buffer h.0.0 h.0.1 h.1 r e
@@ -202,10 +202,10 @@ module _ (chains : Bool) (s w c : List ℕ) where
   abbrev judged : Verdict
   judged = check chains s (length w) (length c)
 
-  abbrev answer : ReportAnswer
+  abbrev answer : Told
   answer = report chains s (length w) (length c)
 
-  pub report_demand_1 : ((n : ℕ) × (i : ℕ) × (answer ≡ told.Refused n i) × CheckRefuses s (length w) (length c) n i
+  pub report_demand_1 : ((n : ℕ) × (i : ℕ) × (answer ≡ told.refused n i) × CheckRefuses s (length w) (length c) n i
       × (work_after judged w ≡ w) × (cycle_after judged c ≡ c))
       ⊎ (CheckHears s (length w) (length c)
       × ((w' c' : List ℕ) → Fit CYCLE (length w') (length c') → report chains s (length w') (length c') ≡ answer)
@@ -217,7 +217,7 @@ module _ (chains : Bool) (s w c : List ℕ) where
           ⊎ (CheckHears s (length w) (length c)
           × ((w' c' : List ℕ) → Fit CYCLE (length w') (length c') → check chains s (length w') (length c') ≡ judged)
           × (work_after judged w ≡ replicate WORK 0 ++ drop WORK w))
-          → ((n : ℕ) × (i : ℕ) × (answer ≡ told.Refused n i) × CheckRefuses s (length w) (length c) n i
+          → ((n : ℕ) × (i : ℕ) × (answer ≡ told.refused n i) × CheckRefuses s (length w) (length c) n i
           × (work_after judged w ≡ w) × (cycle_after judged c ≡ c))
           ⊎ (CheckHears s (length w) (length c)
           × ((w' c' : List ℕ) → Fit CYCLE (length w') (length c') → report chains s (length w') (length c') ≡ answer)

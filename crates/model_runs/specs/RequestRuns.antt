@@ -1,7 +1,7 @@
 -- Runs of control barriers, counted ranks and reports, which change requests brought, computed from the definitions. Assumes nothing.
 use Rattle.std.specs.Prelude.{◌≡◌, refl, false, List, [], ◌∷◌, map, ℕ, set, pos, negsuc, Float}
 use Rattle.std.specs.Float.{fin}
-use Rattle.model.specs.declared.ReportAnswer.TheVariants as told
+use Rattle.model.specs.Report as told
 use Rattle.model.specs.Check.{refused, cyclic, race, race_free}
 use Rattle.model_runs.specs.Runs.{Answer, checked, reported, as_check, as_report, Run, answer, table, change, agent₀, agent₁, agent₂, two, write, read, P, Q_rmw}
 
@@ -84,7 +84,7 @@ counts_hold = refl
 
 -- the counts, and the share
 abbrev says : ℕ → ℕ → ℕ → ℕ → Float → Answer
-says c m o r f = reported (told.Report (record { conflicting = c; mutuals = m; ordered = o; racing = r; share = f }))
+says c m o r f = reported (told.reported (record { conflicting = c; mutuals = m; ordered = o; racing = r; share = f }))
 
 -- 0.0, 0.5, 1.0
 abbrev none : Float
@@ -117,11 +117,11 @@ reports₂ =
     -- the one conflicting pair races
     record { ask = as_report; table = two (lone 0 ∷ lone 1 ∷ []); gives = says 1 0 0 1 whole }
     -- row 3 reads the initial value
-    ∷ record { ask = as_report; table = change 2 3 12 255 (change 2 3 13 255 P); gives = reported (told.Cycle 2) }
+    ∷ record { ask = as_report; table = change 2 3 12 255 (change 2 3 13 255 P); gives = reported (told.cyclic 2) }
     -- row 3 blank
-    ∷ record { ask = as_report; table = change 2 3 12 255 (change 2 3 13 254 P); gives = reported (told.Refused 9 3) }
+    ∷ record { ask = as_report; table = change 2 3 12 255 (change 2 3 13 254 P); gives = reported (told.refused 9 3) }
     -- no rows
-    ∷ record { ask = as_report; table = table [] []; gives = reported told.NoPairs }
+    ∷ record { ask = as_report; table = table [] []; gives = reported told.no_pairs }
     ∷ []
 
 pub reports₂_hold : map (λ r. answer r.ask r.table) reports₂ ≡ map (λ r. r.gives) reports₂

@@ -1,7 +1,7 @@
 -- What a run of the definitions is, and document 01's starred runs, computed from the definitions. Assumes nothing.
 use Rattle.std.specs.Prelude.{◌≡◌, refl, Bool, false, List, [], ◌∷◌, ◌++◌, ℕ, ◌+◌, ◌*◌, length, set}
 use Rattle.model.specs.declared.Reason.TheVariants.{ProgramOrder, Chain}
-use Rattle.model.specs.declared.ReportAnswer.{ReportAnswer}
+use Rattle.model.specs.Report.{Told}
 use Rattle.model.specs.Limits.{WORK, CYCLE, SOURCES}
 use Rattle.model.specs.Table.{table_under}
 use Rattle.model.specs.Location.{before}
@@ -16,7 +16,7 @@ use Rattle.model_runs.specs.Opened.{opened}
 pub data Answer : Type 0 where
   checked : Verdict → Answer
   filling : Outcome → Answer
-  reported : ReportAnswer → Answer
+  reported : Told → Answer
   reasoned : Judged → Answer
   ordered : Bool → Answer
 

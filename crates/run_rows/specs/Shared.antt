@@ -9,8 +9,8 @@ use borrow.Author.Tests.{lt-ltb, le-ltb, le-leb, leb-true, ltb-true}
 use Rattle.finite.specs.Logic.{◌and◌, split, and_true, not_both, not_so}
 use Rattle.finite.specs.Below.{least, Least, least_is, least_unique, least_low}
 use Rattle.model.specs.declared.Row.{Row}
-use Rattle.model.specs.declared.Shared.{Shared}
-use Rattle.model.specs.declared.Shared.TheVariants.{At, Nothing}
+use Rattle.std.specs.declared.option.Option.{Option}
+use Rattle.std.specs.declared.option.Option.TheVariants.{None, Some}
 use Rattle.model.specs.Row.{inside, lowest_shared, is_shared}
 
 -- ---- definitions
@@ -27,9 +27,9 @@ may_share x y r q = not (eqb x y) and ltb r.start (q.start + q.size) and ltb q.s
 unfoldable pub in_both : ℕ → ℕ → ℕ → ℕ → ℕ → Bool
 in_both a m b n c = inside a m c and inside b n c
 
-byte_in : Shared → ℕ
-byte_in (At c) = c
-byte_in Nothing = 0
+byte_in : Option ℕ → ℕ
+byte_in (Some c) = c
+byte_in None = 0
 
 -- ---- laws: inside
 
@@ -44,18 +44,18 @@ inside_out a m c e = (leb-true a c (split e).0, ltb-true c (a + m) (split e).1)
 -- ---- laws: the least k that is found
 
 module _ (a m b n : ℕ) where
-  lowest_is : (k : ℕ) → least m (inside_nth a b n) ≡ k → k < m → At (a + k) ≡ lowest_shared a m b n
+  lowest_is : (k : ℕ) → least m (inside_nth a b n) ≡ k → k < m → Some (a + k) ≡ lowest_shared a m b n
   unfolding lowest_shared
   lowest_is k e l = rw (e, lt-ltb k m l) refl
 
-  lowest_none : least m (inside_nth a b n) ≡ m → Nothing ≡ lowest_shared a m b n
+  lowest_none : least m (inside_nth a b n) ≡ m → None ≡ lowest_shared a m b n
   unfolding lowest_shared
   lowest_none e = rw (e, le-ltb m m (omega arith)) refl
 
   -- ---- laws: what it says
 
   -- a byte that both cover, and none lower, is given; and only such a byte
-  shared_at : (c : ℕ) → in_both a m b n c ≡ true → ((d : ℕ) → d < c → in_both a m b n d ≡ false) → lowest_shared a m b n ≡ At c
+  shared_at : (c : ℕ) → in_both a m b n c ≡ true → ((d : ℕ) → d < c → in_both a m b n d ≡ false) → lowest_shared a m b n ≡ Some c
   unfolding in_both
   shared_at c e f =
       let i = inside_out a m c (split e).0 in
@@ -70,7 +70,7 @@ module _ (a m b n : ℕ) where
       before l h j k =
           not_so (inside b n (a + j)) (λ t. not_both (and_true (inside_in a m (a + j) (omega arith) (omega arith)) t) (f (a + j) (omega arith)))
 
-  at_shared : (c : ℕ) → lowest_shared a m b n ≡ At c → (in_both a m b n c ≡ true) × ((d : ℕ) → d < c → in_both a m b n d ≡ false)
+  at_shared : (c : ℕ) → lowest_shared a m b n ≡ Some c → (in_both a m b n c ≡ true) × ((d : ℕ) → d < c → in_both a m b n d ≡ false)
   unfolding in_both byte_in is_shared
   at_shared c e = go (dec_lt (least m (inside_nth a b n)) m)
     where
@@ -97,18 +97,18 @@ module _ (a m b n : ℕ) where
           not_both {b = true} refl (sym (ap is_shared (lowest_none k ∙ e)))
 
   -- where no byte is inside both none is given; and only there
-  shared_nothing : ((c : ℕ) → in_both a m b n c ≡ false) → lowest_shared a m b n ≡ Nothing
+  shared_nothing : ((c : ℕ) → in_both a m b n c ≡ false) → lowest_shared a m b n ≡ None
   unfolding in_both
   shared_nothing f = go (dec_lt (least m (inside_nth a b n)) m)
     where
       r : Least m (inside_nth a b n) (least m (inside_nth a b n))
       r = least_is (inside_nth a b n) m
 
-      go : Dec (least m (inside_nth a b n) < m) → lowest_shared a m b n ≡ Nothing
+      go : Dec (least m (inside_nth a b n) < m) → lowest_shared a m b n ≡ None
       go (yes l) = not_both (and_true (inside_in a m _ (omega arith) (omega arith)) (r.hit l)) (f (a + least m (inside_nth a b n)))
       go (no l) = sym (lowest_none (omega (arith, r.bound)))
 
-  nothing_shared : lowest_shared a m b n ≡ Nothing → (c : ℕ) → in_both a m b n c ≡ false
+  nothing_shared : lowest_shared a m b n ≡ None → (c : ℕ) → in_both a m b n c ≡ false
   unfolding in_both is_shared
   nothing_shared e c = not_so (inside a m c and inside b n c) (λ t. found t)
     where
@@ -128,11 +128,11 @@ module _ (a m b n : ℕ) where
           none (omega (arith, least_low (inside_nth a b n) m (c - a) f))
 
   -- byte c is given exactly when both cover it and they share no lower byte
-  pub lowest_at : (c : ℕ) → (lowest_shared a m b n ≡ At c) ↔ ((in_both a m b n c ≡ true) × ((d : ℕ) → d < c → in_both a m b n d ≡ false))
+  pub lowest_at : (c : ℕ) → (lowest_shared a m b n ≡ Some c) ↔ ((in_both a m b n c ≡ true) × ((d : ℕ) → d < c → in_both a m b n d ≡ false))
   lowest_at c = (at_shared c, λ h. shared_at c h.0 h.1)
 
   -- nothing is given exactly when no byte is inside both
-  pub lowest_nothing : (lowest_shared a m b n ≡ Nothing) ↔ ((c : ℕ) → in_both a m b n c ≡ false)
+  pub lowest_nothing : (lowest_shared a m b n ≡ None) ↔ ((c : ℕ) → in_both a m b n c ≡ false)
   lowest_nothing = (nothing_shared, shared_nothing)
 
   -- ---- laws: what it is, from the starts and the ends
@@ -146,12 +146,12 @@ module _ (a m b n : ℕ) where
       (omega (arith, i.0, j.0), omega (arith, i.1, j.1))
 
   -- the higher start, where it lies before the lower end
-  pub start_shared : (s e : ℕ) → s ≡ max a b → e ≡ min (a + m) (b + n) → s < e → At s ≡ lowest_shared a m b n
+  pub start_shared : (s e : ℕ) → s ≡ max a b → e ≡ min (a + m) (b + n) → s < e → Some s ≡ lowest_shared a m b n
   unfolding in_both
   start_shared s e p q l =
       let h : in_both a m b n s ≡ true = and_true (inside_in a m s (omega arith) (omega arith)) (inside_in b n s (omega arith) (omega arith)) in
       sym (shared_at s h (λ d k. not_so _ (λ t. let g = (ends_hold d t).0 in omega arith)))
 
   -- nothing elsewhere
-  pub ends_apart : (s e : ℕ) → s ≡ max a b → e ≡ min (a + m) (b + n) → e ≤ s → Nothing ≡ lowest_shared a m b n
+  pub ends_apart : (s e : ℕ) → s ≡ max a b → e ≡ min (a + m) (b + n) → e ≤ s → None ≡ lowest_shared a m b n
   ends_apart s e p q l = sym (shared_nothing (λ c. not_so _ (λ t. let g = ends_hold c t in omega (arith, g.0, g.1))))

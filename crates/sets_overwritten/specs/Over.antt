@@ -38,9 +38,10 @@ use Rattle.sets_grids.specs.Regions.{SOME}
 use Rattle.sets_grids.specs.Grid.{grid_at}
 use Rattle.sets_grids.specs.Location.{Judging}
 use Rattle.find_race.specs.Bytes.{Bounded}
-use Rattle.find_axioms.specs.Overwritten.{found_overwrite, overwrite_of}
-use Rattle.find_axioms.specs.declared.overwritten.Overwrite.{Overwrite}
-use Rattle.find_axioms.specs.declared.overwritten.Overwrite.TheVariants.{At, Nothing}
+use Rattle.find_axioms.specs.Overwritten.{over_at, found_overwrite, overwrite_of}
+use Rattle.std.specs.declared.option.Option.{Option}
+use Rattle.std.specs.declared.option.Option.TheVariants.{None, Some}
+use Rattle.model.specs.declared.Overwritten.{Overwritten}
 
 -- ---- definitions
 
@@ -49,11 +50,11 @@ abbrev pub always : ℕ → ℕ → ℕ
 always k i = k
 
 -- y, the writer z that overwrites its source k before it, and the lowest byte, where z is a row
-unfoldable pub overwrite_by : Table → ℕ → ℕ → ℕ → Overwrite
-overwrite_by t k y z = cond (ltb z t.rows) (At y z (nth t y (least LONGEST (over_bit t (always k) y z)))) Nothing
+unfoldable pub overwrite_by : Table → ℕ → ℕ → ℕ → Option Overwritten
+overwrite_by t k y z = cond (ltb z t.rows) (over_at y z (nth t y (least LONGEST (over_bit t (always k) y z)))) None
 
 -- what is shown of the reader y, whose source is the row k
-unfoldable pub found_writer : Table → ℕ → ℕ → Overwrite
+unfoldable pub found_writer : Table → ℕ → ℕ → Option Overwritten
 found_writer t k y = overwrite_by t k y (least t.rows (over_bits t (always k) y))
 
 -- what the searches look for, of n rows
@@ -67,9 +68,9 @@ reader_in t n source y = ltb y n and over_row t source y
 unfoldable pub may_write : Table → ℕ → ℕ → ℕ → Bool
 may_write t k y z = before_some t k z and (overlaps t y z and writes (t.row z))
 
-unfoldable pub is_at : Overwrite → Bool
-is_at (At y z b) = true
-is_at Nothing = false
+unfoldable pub is_at : Option Overwritten → Bool
+is_at (Some o) = true
+is_at None = false
 
 -- ---- laws: the bits of a pair as a number
 
@@ -239,7 +240,7 @@ module _ (t : Table) (n k y : ℕ) where
       (lt-ltb (least LONGEST (over_bit t (always k) y z)) LONGEST (omega (arith, g.0, g.1))))
 
   pub writer_found : t.rows ≡ n → (z m a : ℕ) → z < n → z ≡ least ROWS (writer_in t n k y) → writer_in t n k y z ≡ true → Mask (over_bit t (always k) y z) m → 0 < m
-      → a ≡ (t.row y).start → ◌≡◌ {A = Overwrite} (At y z (a + count_trailing_zeros 64 m)) (found_writer t k y)
+      → a ≡ (t.row y).start → ◌≡◌ {A = Option Overwritten} (over_at y z (a + count_trailing_zeros 64 m)) (found_writer t k y)
   unfolding writer_in found_writer overwrite_by
   writer_found rows_are z m a lz z_is hit mask pos a_is =
       let e : least t.rows (over_bits t (always k) y) ≡ z =
@@ -248,7 +249,7 @@ module _ (t : Table) (n k y : ℕ) where
       let l : z < t.rows = omega (arith, rows_are) in
       rw (e, lt-ltb z t.rows l, g.1, a_is) refl
 
-  pub writer_none : t.rows ≡ n → n ≤ ROWS → ROWS ≡ least ROWS (writer_in t n k y) → ◌≡◌ {A = Overwrite} Nothing (found_writer t k y)
+  pub writer_none : t.rows ≡ n → n ≤ ROWS → ROWS ≡ least ROWS (writer_in t n k y) → ◌≡◌ {A = Option Overwritten} None (found_writer t k y)
   unfolding writer_in found_writer overwrite_by
   writer_none rows_are few none =
       let e : least t.rows (over_bits t (always k) y) ≡ n =
@@ -258,7 +259,7 @@ module _ (t : Table) (n k y : ℕ) where
 
 -- ---- laws: the reader
 
-shown : (b : Bool) (y z c : ℕ) → is_at (cond b (At y z c) Nothing) ≡ b
+shown : (b : Bool) (y z c : ℕ) → is_at (cond b (over_at y z c) None) ≡ b
 unfolding is_at
 shown true y z c = refl
 shown false y z c = refl
@@ -286,23 +287,23 @@ module _ (t : Table) (source : ℕ → ℕ) (n : ℕ) where
   unfolding over_bit
   same_byte_lem y z = least_cong (over_bit t (always (source y)) y z) (over_bit t source y z) LONGEST (λ k l. refl)
 
-  is_at_lem : (y : ℕ) (o : Overwrite) → o ≡ found_writer t (source y) y → is_at o ≡ ltb (least t.rows (over_bits t source y)) t.rows
+  is_at_lem : (y : ℕ) (o : Option Overwritten) → o ≡ found_writer t (source y) y → is_at o ≡ ltb (least t.rows (over_bits t source y)) t.rows
   unfolding found_writer overwrite_by
   is_at_lem y o e = ap is_at e ∙ shown _ _ _ _ ∙ ap (λ (z : ℕ). ltb z t.rows) (same_writer y)
 
-  pub reader_none : (y : ℕ) (o : Overwrite) → o ≡ found_writer t (source y) y → o ≡ Nothing → reader_in t n source y ≡ false
+  pub reader_none : (y : ℕ) (o : Option Overwritten) → o ≡ found_writer t (source y) y → o ≡ None → reader_in t n source y ≡ false
   unfolding reader_in over_row is_at
   reader_none y o e f = and_false_right _ _ (and_false_right _ _ (sym (is_at_lem y o e) ∙ ap is_at f))
 
-  pub reader_hit : (y : ℕ) (o : Overwrite) {a b c : ℕ} → y < n → reads (t.row y) ≡ true → o ≡ found_writer t (source y) y → o ≡ At a b c → reader_in t n source y ≡ true
+  pub reader_hit : (y : ℕ) (o : Option Overwritten) {a b c : ℕ} → y < n → reads (t.row y) ≡ true → o ≡ found_writer t (source y) y → o ≡ over_at a b c → reader_in t n source y ≡ true
   unfolding reader_in over_row is_at
   reader_hit y o l r e f = and_true (lt-ltb y n l) (and_true r (sym (is_at_lem y o e) ∙ ap is_at f))
 
-  shown_by_lem : (y z : ℕ) → z ≡ least t.rows (over_bits t source y) → z < t.rows → ◌≡◌ {A = Overwrite} (found_writer t (source y) y) (At y z (nth t y (least LONGEST (over_bit t source y z))))
+  shown_by_lem : (y z : ℕ) → z ≡ least t.rows (over_bits t source y) → z < t.rows → ◌≡◌ {A = Option Overwritten} (found_writer t (source y) y) (over_at y z (nth t y (least LONGEST (over_bit t source y z))))
   unfolding found_writer overwrite_by
   shown_by_lem y z z_is l = rw (same_writer y, ← z_is, lt-ltb z t.rows l, same_byte_lem y z) refl
 
-  pub reader_found : Sized t → t.rows ≡ n → (y : ℕ) (o : Overwrite) → y < n → y ≡ least ROWS (reader_in t n source) → reader_in t n source y ≡ true
+  pub reader_found : Sized t → t.rows ≡ n → (y : ℕ) (o : Option Overwritten) → y < n → y ≡ least ROWS (reader_in t n source) → reader_in t n source y ≡ true
       → o ≡ found_writer t (source y) y → o ≡ found_overwrite t source
   unfolding reader_in found_overwrite overwrite_of over_row over_bits
   reader_found sized rows_are y o l y_is hit e = e ∙ shown_by_lem y z refl lz ∙ sym there
@@ -331,11 +332,11 @@ module _ (t : Table) (source : ℕ → ℕ) (n : ℕ) where
       ly : y < t.rows
       ly = omega (arith, l, rows_are)
 
-      there : ◌≡◌ {A = Overwrite} (cond (ltb (over_reader t source) t.rows) (At (over_reader t source) (over_writer t source (over_reader t source)) (over_byte t source (over_reader t source) (over_writer t source (over_reader t source)))) Nothing)
-          (At y z (nth t y (least LONGEST (over_bit t source y z))))
+      there : ◌≡◌ {A = Option Overwritten} (cond (ltb (over_reader t source) t.rows) (over_at (over_reader t source) (over_writer t source (over_reader t source)) (over_byte t source (over_reader t source) (over_writer t source (over_reader t source)))) None)
+          (over_at y z (nth t y (least LONGEST (over_bit t source y z))))
       there = rw (reader_is, writer_is, byte_is, lt-ltb y t.rows ly) refl
 
-  pub reader_nothing : Sized t → t.rows ≡ n → n ≤ ROWS → ROWS ≡ least ROWS (reader_in t n source) → ◌≡◌ {A = Overwrite} Nothing (found_overwrite t source)
+  pub reader_nothing : Sized t → t.rows ≡ n → n ≤ ROWS → ROWS ≡ least ROWS (reader_in t n source) → ◌≡◌ {A = Option Overwritten} None (found_overwrite t source)
   unfolding reader_in found_overwrite overwrite_of
   reader_nothing sized rows_are few none =
       let e : over_reader t source ≡ n =

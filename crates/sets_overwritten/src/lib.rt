@@ -14,7 +14,7 @@ ghost use Rattle.sets_grids.specs.RowThat.{RowThat};
 ghost use Rattle.sets_grids.specs.Location.{ToJudge, Judged};
 ghost use Rattle.sets_overwritten.specs.Over.{always, found_writer};
 
-use find_axioms::overwritten::Overwrite;
+use model::Overwritten;
 use run::Run;
 use sets_of_rows::kept;
 use sets_of_table::fields;
@@ -32,7 +32,7 @@ pub fn overwrites(t: &Run, n: usize, source: usize, z: usize, y: usize, w: &[u64
 
 // The first writer that overwrites y's source before y, at the lowest byte.
 // Ruled out: one that gives another writer than the first.
-fn overwritten_by(t: &Run, n: usize, s: &[u64], source: usize, y: usize, w: &[u64]) -> Overwrite
+fn overwritten_by(t: &Run, n: usize, s: &[u64], source: usize, y: usize, w: &[u64]) -> Option<Overwritten>
     requires { (source < n) × RowThat reads (row_of (rows_in t.now)) n y × ToJudge (table_in t.now n) n s.now w.now }
     ensures { result ≡ found_writer (table_in t.now n) source y }
 {
@@ -41,30 +41,29 @@ fn overwritten_by(t: &Run, n: usize, s: &[u64], source: usize, y: usize, w: &[u6
         if kept::get(w, sets_grids::SOME, z).has(y) {
             let m = overwrites(t, n, source, z, y, w);
             if 0 < m {
-                return Overwrite::At {
+                return Some(Overwritten {
                     reader: y as u16,
                     writer: z as u16,
                     byte: (fields::start(t, y) + (u64::trailing_zeros(m) as u32)) as u16,
-                };
+                });
             }
         }
     }
-    Overwrite::Nothing
+    None
 }
 
 // The first read whose source, in `src`, is overwritten.
-pub fn first_overwrite(t: &Run, n: usize, src: &[u16], s: &[u64], w: &[u64]) -> Overwrite
+pub fn first_overwrite(t: &Run, n: usize, src: &[u16], s: &[u64], w: &[u64]) -> Option<Overwritten>
     requires { (n ≤ length src.now) × ToJudge (table_in t.now n) n s.now w.now }
     ensures { result ≡ found_overwrite (table_in t.now n) (source_in src.now) }
 {
     for y in sets_of_table::rows(s, sets_of_table::READS) {
         let source = src[y] as usize;
         if source < n {
-            let o = overwritten_by(t, n, s, source, y, w);
-            let Overwrite::Nothing = o else {
-                return o;
-            };
+            if let Some(found) = overwritten_by(t, n, s, source, y, w) {
+                return Some(found);
+            }
         }
     }
-    Overwrite::Nothing
+    None
 }

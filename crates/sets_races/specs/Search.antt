@@ -18,9 +18,10 @@ use Rattle.model.specs.Report.{conflict_mutual, conflict_ordered, conflicting, m
 use Rattle.bits.specs.Bit.{bit_of}
 use Rattle.std.proofs.Math.Decide.{dec_lt}
 use Rattle.model_laws.specs.ReportLaws.{one_way, adds_up}
-use Rattle.find_race.specs.declared.Found.{Found}
-use Rattle.find_race.specs.declared.Found.TheVariants.{At, Nothing}
-use Rattle.find_race.specs.First.{race_of, found_race, race_none}
+use Rattle.std.specs.declared.option.Option.{Option}
+use Rattle.std.specs.declared.option.Option.TheVariants.{None, Some}
+use Rattle.model.specs.declared.Race.{Race}
+use Rattle.find_race.specs.First.{found_at, race_of, found_race, race_none}
 use Rattle.sets_of_rows.specs.declared.Set.{Set}
 use Rattle.sets_of_rows.specs.Member.{in_set}
 use Rattle.sets_of_rows.specs.Rows.{Rows, rows_cong, rows_and}
@@ -41,12 +42,12 @@ unfoldable pub has_in : Table → ℕ → ℕ → Bool
 has_in t n x = ltb x n and has_race t x
 
 -- the first race of which x is the lower row
-unfoldable pub race_from : Table → ℕ → Found
-race_from t x = cond (has_race t x) (At x (race_partner t x) (race_byte t x (race_partner t x))) Nothing
+unfoldable pub race_from : Table → ℕ → Option Race
+race_from t x = cond (has_race t x) (found_at x (race_partner t x) (race_byte t x (race_partner t x))) None
 
-unfoldable is_at : Found → Bool
-is_at (At x y b) = true
-is_at Nothing = false
+unfoldable is_at : Option Race → Bool
+is_at (Some r) = true
+is_at None = false
 
 -- ---- laws: the lowest byte of a pair, looked for from k on
 
@@ -101,7 +102,7 @@ module _ (t : Table) (n x : ℕ) where
 
   module _ (rows_are : t.rows ≡ n) where
     pub partner_found : (y : ℕ) {a k : ℕ} → y < n → y ≡ least ROWS (races_in t n x) → n ≤ ROWS → races_in t n x y ≡ true → least LONGEST (unordered_nth t x y) ≡ k
-        → a ≡ (t.row x).start → ◌≡◌ {A = Found} (At x y (a + k)) (race_from t x)
+        → a ≡ (t.row x).start → ◌≡◌ {A = Option Race} (found_at x y (a + k)) (race_from t x)
     unfolding race_from has_race race_partner race_byte race_nth races_in
     partner_found y {a} {k} l e few on h s =
         let q : least t.rows (races_above t x) ≡ y =
@@ -111,7 +112,7 @@ module _ (t : Table) (n x : ℕ) where
         in
         rw (q, lt-ltb y t.rows (omega arith), s, h) refl
 
-    pub partner_none : n ≤ ROWS → ROWS ≡ least ROWS (races_in t n x) → ◌≡◌ {A = Found} Nothing (race_from t x)
+    pub partner_none : n ≤ ROWS → ROWS ≡ least ROWS (races_in t n x) → ◌≡◌ {A = Option Race} None (race_from t x)
     unfolding race_from has_race race_partner races_in
     partner_none few e =
         let q : least t.rows (races_above t x) ≡ t.rows =
@@ -133,17 +134,17 @@ module _ (t : Table) (n : ℕ) where
   unfolding has_in
   has_out h k gone = not_so _ (λ e. let u = split e in not_both (h.is k ∙ and_true u.0 (row_access k u.1)) gone)
 
-  pub from_none : (x : ℕ) {f : Found} → f ≡ race_from t x → f ≡ Nothing → has_in t n x ≡ false
+  pub from_none : (x : ℕ) {f : Option Race} → f ≡ race_from t x → f ≡ None → has_in t n x ≡ false
   unfolding has_in race_from is_at
-  from_none x e z = and_false_right _ _ (not_so _ (λ h. not_both (ap (λ (b : Bool). is_at (cond b (At x (race_partner t x) (race_byte t x (race_partner t x))) Nothing)) h) (ap is_at (sym e ∙ z))))
+  from_none x e z = and_false_right _ _ (not_so _ (λ h. not_both (ap (λ (b : Bool). is_at (cond b (found_at x (race_partner t x) (race_byte t x (race_partner t x))) None)) h) (ap is_at (sym e ∙ z))))
 
-  pub from_some : (x : ℕ) {f : Found} {a b c : ℕ} → x < n → f ≡ race_from t x → f ≡ At a b c → has_in t n x ≡ true
+  pub from_some : (x : ℕ) {f : Option Race} {a b c : ℕ} → x < n → f ≡ race_from t x → f ≡ found_at a b c → has_in t n x ≡ true
   unfolding has_in race_from is_at
   from_some x l e z =
-      and_true (lt-ltb x n l) (⊎_elim (λ h. h) (λ h. not_both (ap is_at (sym e ∙ z)) (ap (λ (b : Bool). is_at (cond b (At x (race_partner t x) (race_byte t x (race_partner t x))) Nothing)) h)) (which (has_race t x)))
+      and_true (lt-ltb x n l) (⊎_elim (λ h. h) (λ h. not_both (ap is_at (sym e ∙ z)) (ap (λ (b : Bool). is_at (cond b (found_at x (race_partner t x) (race_byte t x (race_partner t x))) None)) h)) (which (has_race t x)))
 
   module _ (rows_are : t.rows ≡ n) (few : n ≤ ROWS) where
-    pub row_found : (x : ℕ) {f : Found} → x < n → x ≡ least ROWS (has_in t n) → has_in t n x ≡ true → f ≡ race_from t x → f ≡ found_race t
+    pub row_found : (x : ℕ) {f : Option Race} → x < n → x ≡ least ROWS (has_in t n) → has_in t n x ≡ true → f ≡ race_from t x → f ≡ found_race t
     unfolding race_from found_race race_of race_row has_in
     row_found x l e on is =
         let q : least t.rows (has_race t) ≡ x =
@@ -152,7 +153,7 @@ module _ (t : Table) (n : ℕ) where
         in
         is ∙ rw (q, (split on).1, lt-ltb x t.rows (omega arith)) refl
 
-    pub row_none : ROWS ≡ least ROWS (has_in t n) → ◌≡◌ {A = Found} Nothing (found_race t)
+    pub row_none : ROWS ≡ least ROWS (has_in t n) → ◌≡◌ {A = Option Race} None (found_race t)
     unfolding has_in
     row_none e =
         race_none t t.rows refl

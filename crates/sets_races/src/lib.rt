@@ -18,7 +18,7 @@ ghost use Rattle.sets_races.specs.Counted.{Counted};
 ghost use Rattle.sets_races.specs.Sums.{above, row_count};
 ghost use Rattle.sets_races.specs.Pair.{open_after};
 
-use find_race::Found;
+use model::Race;
 use run::Run;
 use sets_of_rows::{Set, kept};
 use sets_of_table::fields;
@@ -64,11 +64,11 @@ fn is_set(m: u64, k: u32) -> bool
 
 // The first pair in row order that races, then its lowest shared byte with no order: the lower row, the higher, the byte.
 // Ruled out: one that shows the rows exchanged; one that shows the lowest shared byte, ordered or not.
-pub fn first_race(t: &Run, n: usize, s: &[u64], w: &[u64]) -> Found
+pub fn first_race(t: &Run, n: usize, s: &[u64], w: &[u64]) -> Option<Race>
     requires { ToJudge (table_in t.now n) n s.now w.now }
     ensures { result ≡ found_race (table_in t.now n) }
 {
-    let mut answer = Found::Nothing;
+    let mut answer = None;
     'pairs: for x in sets_of_table::rows(s, sets_of_table::ACCESS) {
         for y in open_after(t, n, s, x, w) {
             let bytes = unordered(t, n, x, y, w);
@@ -82,11 +82,11 @@ pub fn first_race(t: &Run, n: usize, s: &[u64], w: &[u64]) -> Found
                 }
                 k += 1;
             };
-            answer = Found::At {
+            answer = Some(Race {
                 first: x as u16,
                 second: y as u16,
                 byte: (fields::start(t, x) + hit) as u16,
-            };
+            });
             break 'pairs;
         }
     }

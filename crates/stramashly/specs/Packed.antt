@@ -12,18 +12,18 @@ use Rattle.model.specs.declared.AcceptAnswer.{AcceptAnswer}
 use Rattle.model.specs.declared.AcceptAnswer.TheVariants as accept
 use Rattle.door_pieces.specs.declared.RowPlace.{RowPlace}
 use Rattle.door_pieces.specs.declared.RowPlace.TheVariants as place
-use Rattle.model.specs.declared.ReportAnswer.{ReportAnswer}
-use Rattle.model.specs.declared.ReportAnswer.TheVariants as told
-use Rattle.model.specs.declared.Admission.{Admission}
-use Rattle.model.specs.declared.Admission.TheVariants as admit
+use Rattle.model.specs.Report.{Told}
+use Rattle.model.specs.Report as told
+use Rattle.model.specs.Refusal.{Admission}
+use Rattle.model.specs.Refusal as admit
 use Rattle.model.specs.Header.{ROW_BYTES}
-use Rattle.door_write.specs.declared.WriteAnswer.{WriteAnswer}
-use Rattle.door_write.specs.declared.WriteAnswer.TheVariants as written
-use Rattle.door_write.specs.declared.ReadAnswer.{ReadAnswer}
-use Rattle.door_write.specs.declared.ReadAnswer.TheVariants as read
+use Rattle.door_write.specs.Answer.{WriteAnswer}
+use Rattle.door_write.specs.Answer as written
+use Rattle.door_write.specs.Read.{ReadAnswer}
+use Rattle.door_write.specs.Read as read
 use Rattle.door_write.specs.Encode.{row_list}
-use Rattle.door_step.specs.declared.Stepped.{Stepped}
-use Rattle.door_step.specs.declared.Stepped.TheVariants as step
+use Rattle.door_step.specs.Steps.{StepAnswer}
+use Rattle.door_step.specs.Steps as step
 use Rattle.door_step.specs.Steps.{stepped_at}
 
 unfoldable pub packed : ℕ → ℕ → ℕ → ℕ → ℕ
@@ -65,20 +65,20 @@ pack_accept accept.Accepted = packed 10 0 0 0
 pack_accept accept.NotAccepted = packed 11 0 0 0
 
 -- the codes: 2, 3, 4 as a check's; 7 a report (a is the mutually-ordered pairs, b the ordered, c the racing), 18 no pair conflicts
-unfoldable pub pack_report : ReportAnswer → ℕ
-pack_report (told.Refused n i) = packed 4 n i 0
-pack_report (told.Cycle l) = packed 3 l 0 0
-pack_report (told.Overwritten y z b) = packed 2 y z b
-pack_report told.NoPairs = packed 18 0 0 0
-pack_report (told.Report r) = packed 7 r.mutuals r.ordered r.racing
+unfoldable pub pack_report : Told → ℕ
+pack_report (told.refused n i) = packed 4 n i 0
+pack_report (told.cyclic l) = packed 3 l 0 0
+pack_report (told.overwritten y z b) = packed 2 y z b
+pack_report told.no_pairs = packed 18 0 0 0
+pack_report (told.reported r) = packed 7 r.mutuals r.ordered r.racing
 
 -- the number lent for the share, as the report leaves it: the report's own, where there is one
-unfoldable pub share_after : ReportAnswer → Float → Float
-share_after (told.Refused n i) x = x
-share_after (told.Cycle l) x = x
-share_after (told.Overwritten y z b) x = x
-share_after told.NoPairs x = x
-share_after (told.Report r) x = r.share
+unfoldable pub share_after : Told → Float → Float
+share_after (told.refused n i) x = x
+share_after (told.cyclic l) x = x
+share_after (told.overwritten y z b) x = x
+share_after told.no_pairs x = x
+share_after (told.reported r) x = r.share
 
 -- a switch, where a caller can hand in any number
 abbrev pub is_on : ℕ → Bool
@@ -100,13 +100,13 @@ pack_open (admit.Refused n i) = packed 4 n i 0
 pack_open (admit.Admitted a n) = packed 13 n a 0
 
 -- the codes: 4 refused, as above; 14 a row, 15 the end (a is the next place)
-unfoldable pub pack_step : Stepped → ℕ
+unfoldable pub pack_step : StepAnswer → ℕ
 pack_step (step.Refused n i) = packed 4 n i 0
 pack_step (step.Row r s next) = packed 14 next 0 0
 pack_step (step.End next) = packed 15 next 0 0
 
 -- the row's bytes at the front of the lent buffer; a refusal and the end leave it alone
-unfoldable pub step_put : Stepped → List ℕ → List ℕ
+unfoldable pub step_put : StepAnswer → List ℕ → List ℕ
 step_put (step.Refused n i) out = out
 step_put (step.Row r s next) out = row_list r s.0 ++ drop ROW_BYTES out
 step_put (step.End next) out = out

@@ -2,8 +2,8 @@
 use Rattle.std.specs.Prelude.{◌≡◌, refl, Bool, true, false, cond, List, ◌↔◌, ℕ, ◌%◌, ◌≤◌, ◌<◌, length, leb, eqb, Float}
 use Rattle.std.proofs.Common.{arith, leb-true}
 use Rattle.model.specs.declared.Reason.{Reason}
-use Rattle.model.specs.declared.ReportAnswer.{ReportAnswer}
-use Rattle.model.specs.declared.ReportAnswer.TheVariants as told
+use Rattle.model.specs.Report.{Told}
+use Rattle.model.specs.Report as told
 use Rattle.model.specs.Limits.{ROWS, CYCLE, SOURCES, STEPS}
 use Rattle.model.specs.Header.{HEADER, ROW_BYTES, rows_at}
 use Rattle.model.specs.Refusal.{shape_or, buffers_fit, version_fits, limits_fit, length_fits}
@@ -124,13 +124,13 @@ pub report2_reads : (chains : Bool) (f s : List ℕ) (work buffer : ℕ) (x : Fl
     → let a = report_both chains f s work buffer in read_report (pack_report a) (share_after a x) ≡ a
 unfolding report_both
 report2_reads chains f s work buffer x =
-    by_buffers Reads (buffers_fit CYCLE work buffer) _ _ (by_pieces Reads told.Refused _ f s short (report_reads chains (joined f s) work buffer x)) (short 11 (omega arith))
+    by_buffers Reads (buffers_fit CYCLE work buffer) _ _ (by_pieces Reads told.refused _ f s short (report_reads chains (joined f s) work buffer x)) (short 11 (omega arith))
   where
-    Reads : ReportAnswer → Type 0
+    Reads : Told → Type 0
     Reads a = read_report (pack_report a) (share_after a x) ≡ a
 
-    short : (n : ℕ) → n < SMALL → Reads (told.Refused n 0)
-    short n l = report_back (told.Refused n 0) x (l, omega arith)
+    short : (n : ℕ) → n < SMALL → Reads (told.refused n 0)
+    short n l = report_back (told.refused n 0) x (l, omega arith)
 
 pub derive2_reads : (f s : List ℕ) (m k work buffer : ℕ)
     → read_derive (pack_derive (derive_answer (derive_both f s m k work buffer))) ≡ derive_answer (derive_both f s m k work buffer)

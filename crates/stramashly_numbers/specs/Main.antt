@@ -5,8 +5,9 @@
 -- `CODE`, `A`, `B` and `C` (Reading.antt) are the header's macros STRAMASHLY_CODE, _A, _B and _C. `read… r` is the
 -- answer that a number r is read as.
 use Rattle.std.specs.Prelude.{◌≡◌, Bool, true, List, ◌↔◌, ℕ, ◌+◌, ◌*◌, ◌≤◌, ◌<◌, length, take, drop, Float}
-use Rattle.model.specs.declared.Admission.TheVariants.{Admitted, Refused}
-use Rattle.model.specs.declared.{Reason.Reason, Report.Report, ReportAnswer.ReportAnswer}
+use Rattle.model.specs.Refusal.{Admitted, Refused}
+use Rattle.model.specs.declared.{Reason.Reason, Report.Report}
+use Rattle.model.specs.Report.{Told}
 use Rattle.model.specs.Header.{ROW_BYTES, rows_at, row_bytes}
 use Rattle.model.specs.Refusal.{admission}
 use Rattle.model.specs.Check.{Verdict, check, check_answer}
@@ -96,10 +97,10 @@ accept2_reads = beside.Given.accept2_reads
 -- ==== A report's share, and a row's bytes
 
 -- the share that C gets is the report's own; where there is no report, its place stays as it was, x
-pub report_share : (r : Report) (x : Float) → share_after (ReportAnswer.Report r) x ≡ r.share
+pub report_share : (r : Report) (x : Float) → share_after (Told.reported r) x ≡ r.share
 report_share = beside.Rows.report_share
 
-pub no_pairs : (x : Float) → (pack_report ReportAnswer.NoPairs ≡ packed 18 0 0 0) × (share_after ReportAnswer.NoPairs x ≡ x)
+pub no_pairs : (x : Float) → (pack_report Told.no_pairs ≡ packed 18 0 0 0) × (share_after Told.no_pairs x ≡ x)
 no_pairs = beside.Rows.no_pairs
 
 -- steps through a table s, with a buffer `out` that has room for a row

@@ -1,5 +1,7 @@
 -- How a packed number is read, and that it is read back as what was packed. Assumes nothing.
 use Rattle.std.specs.Prelude.{◌≡◌, refl, cond, ℕ, ◌+◌, ◌*◌, ◌/◌, ◌%◌, ◌<◌, length, eqb, Float}
+use Rattle.std.specs.declared.option.Option.{Option}
+use Rattle.std.specs.declared.option.Option.TheVariants.{None, Some}
 use Rattle.std.proofs.Common.{ap, arith, ne_eqb}
 use Rattle.model.specs.declared.CheckAnswer.{CheckAnswer}
 use Rattle.model.specs.declared.CheckAnswer.TheVariants as said
@@ -10,21 +12,21 @@ use Rattle.model.specs.declared.DeriveAnswer.TheVariants as derived
 use Rattle.model.specs.declared.AcceptAnswer.{AcceptAnswer}
 use Rattle.model.specs.declared.AcceptAnswer.TheVariants as accept
 use Rattle.model.specs.declared.Report.{Report}
-use Rattle.model.specs.declared.ReportAnswer.{ReportAnswer}
-use Rattle.model.specs.declared.ReportAnswer.TheVariants as told
+use Rattle.model.specs.Report.{Told}
+use Rattle.model.specs.Report as told
 use Rattle.model.specs.Check.{Verdict, check_answer}
 use Rattle.model.specs.Fill.{Outcome, fill_answer}
 use Rattle.model.specs.Reason.{Judged, Derived, accept_answer, derive_answer}
-use Rattle.model.specs.declared.Admission.{Admission}
-use Rattle.model.specs.declared.Admission.TheVariants as admit
+use Rattle.model.specs.Refusal.{Admission}
+use Rattle.model.specs.Refusal as admit
 use Rattle.door_pieces.specs.declared.RowPlace.{RowPlace}
 use Rattle.door_pieces.specs.declared.RowPlace.TheVariants as place
-use Rattle.door_write.specs.declared.WriteAnswer.{WriteAnswer}
-use Rattle.door_write.specs.declared.WriteAnswer.TheVariants as written
-use Rattle.door_write.specs.declared.ReadAnswer.{ReadAnswer}
-use Rattle.door_write.specs.declared.ReadAnswer.TheVariants as values
-use Rattle.door_step.specs.declared.Stepped.{Stepped}
-use Rattle.door_step.specs.declared.Stepped.TheVariants as step
+use Rattle.door_write.specs.Answer.{WriteAnswer}
+use Rattle.door_write.specs.Answer as written
+use Rattle.door_write.specs.Read.{ReadAnswer}
+use Rattle.door_write.specs.Read as values
+use Rattle.door_step.specs.Steps.{StepAnswer}
+use Rattle.door_step.specs.Steps as step
 use Rattle.model_promises.specs.Bounds.{SMALL, SmallVerdict, SmallOutcome, SmallReport, SmallDerived, SmallJudged}
 use Rattle.stramashly.specs.Packed.{packed, PROGRAM_ORDER, pack_check, pack_fill, pack_derive, pack_accept, pack_report, share_after}
 use Rattle.stramashly.specs.Packed.{pack_write, pack_read, pack_open, pack_step, pack_place}
@@ -117,29 +119,29 @@ accept_back Judged.not_accepted h = let p = reads_back 11 0 0 0 (omega arith) (o
 -- ---- a report's number, with the share that was handed out beside it
 
 -- the report of three counts and a share
-unfoldable pub report_by : ℕ → ℕ → ℕ → Float → ReportAnswer
-report_by a b c x = told.Report (record { conflicting = a + b + c; mutuals = a; ordered = b; racing = c; share = x })
+unfoldable pub report_by : ℕ → ℕ → ℕ → Float → Told
+report_by a b c x = told.reported (record { conflicting = a + b + c; mutuals = a; ordered = b; racing = c; share = x })
 
-unfoldable pub tell_by : ℕ → ℕ → ℕ → ℕ → Float → ReportAnswer
+unfoldable pub tell_by : ℕ → ℕ → ℕ → ℕ → Float → Told
 tell_by k a b c x = cond (eqb k 7) (report_by a b c x)
-    (cond (eqb k 18) told.NoPairs (cond (eqb k 2) (told.Overwritten a b c) (cond (eqb k 3) (told.Cycle a) (told.Refused a b))))
+    (cond (eqb k 18) told.no_pairs (cond (eqb k 2) (told.overwritten a b c) (cond (eqb k 3) (told.cyclic a) (told.refused a b))))
 
-abbrev pub read_report : ℕ → Float → ReportAnswer
+abbrev pub read_report : ℕ → Float → Told
 read_report r x = tell_by (CODE r) (A r) (B r) (C r) x
 
 made : (r : Report) (d : ℕ) → d ≡ r.conflicting
     → record { conflicting = d; mutuals = r.mutuals; ordered = r.ordered; racing = r.racing; share = r.share } ≡ r
 made r d e = rw e refl
 
-pub report_back : (a : ReportAnswer) (x : Float) → SmallReport a → read_report (pack_report a) (share_after a x) ≡ a
+pub report_back : (a : Told) (x : Float) → SmallReport a → read_report (pack_report a) (share_after a x) ≡ a
 unfolding tell_by report_by pack_report share_after
-report_back (told.Refused n i) x h = let p = reads_back 4 n i 0 h.0 h.1 (omega arith) in rw (p.0, p.1, p.2) refl
-report_back (told.Cycle k) x h = let p = reads_back 3 k 0 0 h (omega arith) (omega arith) in rw (p.0, p.1) refl
-report_back (told.Overwritten y z b) x h = let p = reads_back 2 y z b h.0 h.1 h.2 in rw (p.0, p.1, p.2, p.3) refl
-report_back told.NoPairs x h = let p = reads_back 18 0 0 0 (omega arith) (omega arith) (omega arith) in rw p.0 refl
-report_back (told.Report r) x h =
+report_back (told.refused n i) x h = let p = reads_back 4 n i 0 h.0 h.1 (omega arith) in rw (p.0, p.1, p.2) refl
+report_back (told.cyclic k) x h = let p = reads_back 3 k 0 0 h (omega arith) (omega arith) in rw (p.0, p.1) refl
+report_back (told.overwritten y z b) x h = let p = reads_back 2 y z b h.0 h.1 h.2 in rw (p.0, p.1, p.2, p.3) refl
+report_back told.no_pairs x h = let p = reads_back 18 0 0 0 (omega arith) (omega arith) (omega arith) in rw p.0 refl
+report_back (told.reported r) x h =
     let p = reads_back 7 r.mutuals r.ordered r.racing h.2 h.3 h.4 in
-    rw (p.0, p.1, p.2, p.3) (ap told.Report (made r (r.mutuals + r.ordered + r.racing) h.1))
+    rw (p.0, p.1, p.2, p.3) (ap told.reported (made r (r.mutuals + r.ordered + r.racing) h.1))
 
 -- ---- the number of an opened table
 
@@ -166,7 +168,7 @@ pub data RowSaid : Type 0 where
   end : ℕ → RowSaid
 
 -- what of a step's answer is in the number
-unfoldable pub said_of : Stepped → RowSaid
+unfoldable pub said_of : StepAnswer → RowSaid
 said_of (step.Refused n i) = RowSaid.refused n i
 said_of (step.Row r s next) = RowSaid.row next
 said_of (step.End next) = RowSaid.end next
@@ -177,12 +179,12 @@ row_by k a b = cond (eqb k 14) (RowSaid.row a) (cond (eqb k 15) (RowSaid.end a) 
 abbrev pub read_row : ℕ → RowSaid
 read_row r = row_by (CODE r) (A r) (B r)
 
-abbrev pub SmallStep : Stepped → Type 0
+abbrev pub SmallStep : StepAnswer → Type 0
 SmallStep (step.Refused n i) = (n < SMALL) × (i < SMALL)
 SmallStep (step.Row r s next) = next < SMALL
 SmallStep (step.End next) = next < SMALL
 
-pub row_back : (x : Stepped) → SmallStep x → read_row (pack_step x) ≡ said_of x
+pub row_back : (x : StepAnswer) → SmallStep x → read_row (pack_step x) ≡ said_of x
 unfolding row_by pack_step said_of
 row_back (step.Refused n i) h = let p = reads_back 4 n i 0 h.0 h.1 (omega arith) in rw (p.0, p.1, p.2) refl
 row_back (step.Row r s next) h = let p = reads_back 14 next 0 0 h (omega arith) (omega arith) in rw (p.0, p.1) refl
@@ -230,19 +232,19 @@ values_back (values.Read version agents rows n) h =
 
 -- ---- the number of a row's place
 
-unfoldable pub place_by : ℕ → ℕ → ℕ → RowPlace
-place_by k a b = cond (eqb k 16) (cond (eqb a 0) (place.First b) (place.Second b)) place.Neither
+unfoldable pub place_by : ℕ → ℕ → ℕ → Option RowPlace
+place_by k a b = cond (eqb k 16) (cond (eqb a 0) (Some (place.First b)) (Some (place.Second b))) None
 
-abbrev pub read_place : ℕ → RowPlace
+abbrev pub read_place : ℕ → Option RowPlace
 read_place r = place_by (CODE r) (A r) (B r)
 
-abbrev pub SmallPlace : RowPlace → Type 0
-SmallPlace (place.First at) = at < SMALL
-SmallPlace (place.Second at) = at < SMALL
-SmallPlace place.Neither = Unit
+abbrev pub SmallPlace : Option RowPlace → Type 0
+SmallPlace (Some (place.First at)) = at < SMALL
+SmallPlace (Some (place.Second at)) = at < SMALL
+SmallPlace None = Unit
 
-pub place_back : (x : RowPlace) → SmallPlace x → read_place (pack_place x) ≡ x
+pub place_back : (x : Option RowPlace) → SmallPlace x → read_place (pack_place x) ≡ x
 unfolding place_by pack_place
-place_back (place.First at) h = let p = reads_back 16 0 at 0 (omega arith) h (omega arith) in rw (p.0, p.1, p.2) refl
-place_back (place.Second at) h = let p = reads_back 16 1 at 0 (omega arith) h (omega arith) in rw (p.0, p.1, p.2) refl
-place_back place.Neither h = let p = reads_back 17 0 0 0 (omega arith) (omega arith) (omega arith) in rw p.0 refl
+place_back (Some (place.First at)) h = let p = reads_back 16 0 at 0 (omega arith) h (omega arith) in rw (p.0, p.1, p.2) refl
+place_back (Some (place.Second at)) h = let p = reads_back 16 1 at 0 (omega arith) h (omega arith) in rw (p.0, p.1, p.2) refl
+place_back None h = let p = reads_back 17 0 0 0 (omega arith) (omega arith) (omega arith) in rw p.0 refl

@@ -1,12 +1,14 @@
 -- The numbers of the functions about rows and bytes (open, row, row2, write, read), read back. Assumes nothing.
 use Rattle.std.specs.Prelude.{◌≡◌, Bool, true, false, cond, List, length, ltb, leb, eqb}
+use Rattle.std.specs.declared.option.Option.{Option}
+use Rattle.std.specs.declared.option.Option.TheVariants.{None, Some}
 use Rattle.std.proofs.Math.Path.{refl}
 use Rattle.std.proofs.Common.{sym, ap, ◌∙◌, arith, eqb-true, leb-true, ltb-true}
 use Prim.Native.Nat.{ℕ, ◌+◌, ◌-◌, ◌*◌, ◌≤◌, ◌<◌}
 use Rattle.std.proofs.Math.Decide.{dec_lt}
 use Rattle.finite.specs.Logic.{split}
-use Rattle.model.specs.declared.Admission.{Admission}
-use Rattle.model.specs.declared.Admission.TheVariants as admit
+use Rattle.model.specs.Refusal.{Admission}
+use Rattle.model.specs.Refusal as admit
 use Rattle.model.specs.Limits.{ROWS, AGENTS}
 use Rattle.model.specs.Table.{dependency_count}
 use Rattle.model.specs.Header.{HEADER, VERSION_HOSTS, ROW_BYTES, version_at, agents_at, rows_at, has_hosts, rows_begin, dependency_bytes}
@@ -17,14 +19,14 @@ use Rattle.door_pieces.specs.declared.RowPlace.TheVariants as place
 use Rattle.door_pieces.specs.Pieces.{rows_both, pieces_fault, early_fault, row_place}
 use Rattle.door_pieces.specs.PiecesLaws.{first_right, both_fit, early_pieces}
 use Rattle.door_write.specs.declared.Dependencies.{Dependencies}
-use Rattle.door_write.specs.declared.Entry.{Entry}
-use Rattle.door_write.specs.declared.WriteAnswer.TheVariants as written
+use Rattle.model.specs.declared.Entry.{Entry}
+use Rattle.door_write.specs.Answer as written
 use Rattle.door_write.specs.Encode.{with_hosts, places_size, dependencies_size, table_size, encode}
 use Rattle.door_write.specs.Answer.{version_known, counts_fit, numbers_fit, dependencies_fit, values_fault, room_answer, write_answer}
 use Rattle.door_write.specs.Parts.{parts_answer}
-use Rattle.door_write.specs.declared.ReadAnswer.TheVariants as values
+use Rattle.door_write.specs.Read as values
 use Rattle.door_write.specs.Read.{lent_fit, read_answer}
-use Rattle.door_step.specs.declared.Stepped.TheVariants as step
+use Rattle.door_step.specs.Steps as step
 use Rattle.door_step.specs.Steps.{stepped_at}
 use Rattle.door_step.specs.Promise.{from_refused, from_row_lem, from_end}
 use Rattle.model_promises.specs.Bounds.{SMALL, admission_small}
@@ -120,7 +122,7 @@ place_fits f s n = go (eqb (early_fault f s) 0) refl (ltb n (rows_at f)) refl (l
     fit e = early_pieces f s (early_fault f s) refl (eqb-true (early_fault f s) 0 e)
 
     go : (a : Bool) → eqb (early_fault f s) 0 ≡ a → (b : Bool) → ltb n (rows_at f) ≡ b → (c : Bool) → ltb n (rows_both f s) ≡ c
-        → SmallPlace (cond a (cond b (place.First (rows_begin f + ROW_BYTES * n)) (cond c (place.Second (ROW_BYTES * (n - rows_at f))) place.Neither)) place.Neither)
+        → SmallPlace (cond a (cond b (Some (place.First (rows_begin f + ROW_BYTES * n))) (cond c (Some (place.Second (ROW_BYTES * (n - rows_at f)))) None)) None)
     go true e true l c m =
         let h = begin_fits f (shape_agents f (first_right f s (fit e))) in
         let k = ltb-true n (rows_at f) l in

@@ -3,28 +3,28 @@ use Rattle.std.specs.Prelude.{◌≡◌, refl, true, List, ℕ, ◌+◌, ◌*◌
 use Rattle.std.proofs.Math.Path.{ap}
 use Rattle.std.proofs.Common.{◌∙◌, le-leb}
 use Rattle.std.proofs.Math.Seq.{take_at, drop_at}
-use Rattle.model.specs.declared.Admission.TheVariants.{Admitted, Refused}
+use Rattle.model.specs.Refusal.{Admitted, Refused}
 use Rattle.model.specs.declared.Report.{Report}
-use Rattle.model.specs.declared.ReportAnswer.TheVariants as told
+use Rattle.model.specs.Report as told
 use Rattle.model.specs.declared.Row.{Row}
 use Rattle.model.specs.Table.{row_of, source_of}
 use Rattle.model.specs.Header.{ROW_BYTES, row_bytes}
 use Rattle.model.specs.Refusal.{admission}
 use Rattle.door_write.specs.Encode.{row_list}
 use Rattle.door_write.specs.Promise.{row_bytes_again}
-use Rattle.door_step.specs.declared.Stepped.{Stepped}
-use Rattle.door_step.specs.declared.Stepped.TheVariants as step
+use Rattle.door_step.specs.Steps.{StepAnswer}
+use Rattle.door_step.specs.Steps as step
 use Rattle.door_step.specs.Steps.{stepped_at}
 use Rattle.door_step.specs.Promise.{from_refused, from_row_lem, from_end}
 use Rattle.stramashly.specs.Packed.{packed, pack_report, share_after, pack_step, step_put, row_answer, row_after}
 
 -- ---- the report's share is the struct's own; where there is no report, the number lent for it stays
 
-pub report_share : (r : Report) (x : Float) → share_after (told.Report r) x ≡ r.share
+pub report_share : (r : Report) (x : Float) → share_after (told.reported r) x ≡ r.share
 unfolding share_after
 report_share r x = refl
 
-pub no_pairs : (x : Float) → (pack_report told.NoPairs ≡ packed 18 0 0 0) × (share_after told.NoPairs x ≡ x)
+pub no_pairs : (x : Float) → (pack_report told.no_pairs ≡ packed 18 0 0 0) × (share_after told.no_pairs x ≡ x)
 unfolding pack_report share_after
 no_pairs x = (refl, refl)
 
@@ -35,9 +35,9 @@ sixteen r m = refl
 -- ---- stepping through a table s, with a buffer that a row has room in
 
 module _ (s : List ℕ) (i : ℕ) (out : List ℕ) (room : ROW_BYTES ≤ length out) where
-  answer_is : (x : Stepped) → stepped_at s i ≡ x → (row_answer s i (length out) ≡ pack_step x) × (row_after s i out ≡ step_put x out)
+  answer_is : (x : StepAnswer) → stepped_at s i ≡ x → (row_answer s i (length out) ≡ pack_step x) × (row_after s i out ≡ step_put x out)
   unfolding row_answer row_after
-  answer_is x e = rw (le-leb ROW_BYTES (length out) room) (ap pack_step e, ap (λ (z : Stepped). step_put z out) e)
+  answer_is x e = rw (le-leb ROW_BYTES (length out) room) (ap pack_step e, ap (λ (z : StepAnswer). step_put z out) e)
 
   -- what a fill refuses, 11 aside, gets that refusal at every place, and nothing is written
   pub row_refused : (k j : ℕ) → admission true s ≡ Refused k j → (row_answer s i (length out) ≡ packed 4 k j 0) × (row_after s i out ≡ out)

@@ -1,6 +1,6 @@
 use Rattle.finite.specs.Logic.{◌and◌}
 use Rattle.door_pieces.specs.Entry.{few}
-use Rattle.ask_accepts.specs.Judging.{first_low, second_low, judged_absent, judged_accepted, judged_other}
+use Rattle.ask_accepts.specs.Judging.{first_low, second_low, judged_absent, judged_told}
 use mathlib.Core.Path.{ap}
 use mathlib.Core.Bool.{not}
 use Rattle.ask_accepts.proofs.judge_rows.Goals as goal
@@ -18,14 +18,7 @@ is_accepted-requires c = (
   second_low _ _ _ _ c.args.e.first _ c.is_there.result _ c.is_there-2.ensures (ap not c.if-not-is_there-e.false),
 )
 
-pub returns-then-is_accepted : goal.returns-then-is_accepted
-unfolding ◌and◌
-returns-then-is_accepted c =
-    judged_accepted _ _ _ _ _ _ _ _ _ _ c.is_there.ensures c.is_there-2.ensures (ap not c.if-not-is_there-e.false) _
-    c.is_accepted.ensures c.if-is_accepted.true
-
 pub returns : goal.returns
 unfolding ◌and◌
 returns c =
-    judged_other _ _ _ _ _ _ _ _ _ _ c.is_there.ensures c.is_there-2.ensures (ap not c.if-not-is_there-e.false) _
-    c.is_accepted.ensures c.if-is_accepted.false
+    judged_told _ _ _ _ _ _ _ _ _ _ c.is_there.ensures c.is_there-2.ensures (ap not c.if-not-is_there-e.false) _ c.is_accepted.ensures

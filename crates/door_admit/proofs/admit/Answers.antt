@@ -1,9 +1,11 @@
-use mathlib.Core.Path.{sym}
+use mathlib.Core.Path.{sym, ap}
+use Rattle.model.specs.Refusal.{admission_answer}
 use Rattle.door_admit.proofs.Laws.{header_refused, header_passed}
 use Rattle.door_admit.proofs.admit.Goals as goal
 
 pub returns-then-fault-ne0 : goal.returns-then-fault-ne0
-returns-then-fault-ne0 c = sym (header_refused _ _ _ c.header_fault-fault.ensures c.if-fault-ne0.true)
+unfolding admission_answer
+returns-then-fault-ne0 c = sym (ap admission_answer (header_refused _ _ _ c.header_fault-fault.ensures c.if-fault-ne0.true))
 
 pub returns : goal.returns
 returns c =

@@ -1,5 +1,7 @@
 use native.Mathlib.Omega.{arith}
-use mathlib.Core.Path.{sym, ◌∙◌}
+use mathlib.Core.Path.{refl, sym, ◌∙◌}
+use Rattle.std.proofs.lemmas.Result.{err_from_is_err_and}
+use Rattle.model_laws.specs.AdmissionLaws.{answer_admitted, answer_refused}
 use Rattle.door_write.specs.ValueLaws.{values_fit, agents_few, rows_few, after_few}
 use Rattle.door_write.proofs.Laws.{few_bytes, front_is, front_size, answer_is, values_refused, refused_both, written_both, refused_out, short_is, long_is}
 use borrow.Author.Rules.{rules}
@@ -23,14 +25,16 @@ pub slice_bounds-admit-end : goal.slice_bounds-admit-end
 slice_bounds-admit-end c = front_size _ _ _ _ _ _ 0 _ c.values_fault-fault.ensures
     c.if-fault-ne0.false _ _ c.table_size-size.ensures.0 c.encode_table-t.ensures
 
-pub returns-in_default : goal.returns-in_default
-returns-in_default c =
-    refused_out _ _ _ _ (answer_is _ _ _ _ _ _ _ _
+pub returns-in_err-admit : goal.returns-in_err-admit
+returns-in_err-admit c =
+    let p = err_from_is_err_and c.from_residual.result c.from_residual.ensures.1 in
+    let refused = answer_refused _ (sym c.admit.ensures ∙ c.in_err-admit.was) in
+    rw (p.1, p.2)
+    (refused_out _ _ _ _ (answer_is _ _ _ _ _ _ _ _
     c.values_fault-fault.ensures
     c.if-fault-ne0.false _ _
     c.table_size-size.ensures.0
-    c.encode_table-t.ensures _ c.admit-a.ensures) _ _ _ _ _
-    c.refusal_of-x.ensures c.in_default.is
+    c.encode_table-t.ensures _ refl) _ _ _ refused)
 
 pub returns-then-out-size : goal.returns-then-out-size
 returns-then-out-size c =
@@ -38,8 +42,8 @@ returns-then-out-size c =
     (answer_is _ _ _ _ _ _ _ _ c.values_fault-fault.ensures
     c.if-fault-ne0.false _ _
     c.table_size-size.ensures.0
-    c.encode_table-t.ensures _ c.admit-a.ensures) _ _
-    c.in-Admitted.is c.if-out-size.true)
+    c.encode_table-t.ensures _ refl) _ _
+    (answer_admitted _ (sym c.admit.ensures ∙ c.in_ok-admit.was)) c.if-out-size.true)
 
 pub put-requires : goal.put-requires
 put-requires c =
@@ -58,9 +62,8 @@ pub returns : goal.returns
 returns c =
     written_both _ _ _ _ _ _ (long_is _ _ _ _
     (answer_is _ _ _ _ _ _ _ _ c.values_fault-fault.ensures c.if-fault-ne0.false _ _ c.table_size-size.ensures.0
-    c.encode_table-t.ensures _
-    c.admit-a.ensures) _ _
-    c.in-Admitted.is c.if-out-size.false)
+    c.encode_table-t.ensures _ refl) _ _
+    (answer_admitted _ (sym c.admit.ensures ∙ c.in_ok-admit.was)) c.if-out-size.false)
     c.put.ensures (front_is _ _ _ _ _ _ 0 _
     c.values_fault-fault.ensures
     c.if-fault-ne0.false _ _

@@ -1,7 +1,7 @@
 use Rattle.run.specs.Layout.{table_in}
 use Rattle.model.specs.Limits.{BYTES}
 use Rattle.find_race.specs.First.{NoneBelow}
-use Rattle.find_race.specs.declared.Found.TheVariants.{Nothing}
+use Rattle.std.specs.declared.option.Option.TheVariants.{None}
 use Rattle.model.specs.Race.{races_above, has_race}
 use Rattle.finite.specs.Below.{least}
 use Prim.Native.Nat.{◌-◌, ◌*◌, ◌≤◌, ◌<◌}
@@ -15,7 +15,7 @@ abbrev pub decreases-loop-b : goal.decreases-loop-b
 decreases-loop-b l = l.end - l.b
 
 abbrev pub invariant-loop-y : goal.invariant-loop-y
-invariant-loop-y l = (l.x < l.y) × (l.y ≤ l.n) × (l.answer ≡ Nothing) × (least l.y (races_above (table_in l.t l.n) l.x) ≡ l.y) × (l.end ≤ 2 * BYTES)
+invariant-loop-y l = (l.x < l.y) × (l.y ≤ l.n) × (l.answer ≡ None) × (least l.y (races_above (table_in l.t l.n) l.x) ≡ l.y) × (l.end ≤ 2 * BYTES)
 
 abbrev pub invariant-pairs : goal.invariant-pairs
-invariant-pairs l = (l.x ≤ l.n) × (l.answer ≡ Nothing) × (least l.x (has_race (table_in l.t l.n)) ≡ l.x)
+invariant-pairs l = (l.x ≤ l.n) × (l.answer ≡ None) × (least l.x (has_race (table_in l.t l.n)) ≡ l.x)

@@ -24,5 +24,5 @@ pub returns : goal.returns
 unfolding decode
 returns c =
     let start = c.cycle_start-x.ensures in
-    let told = acyclic_found _ _ _ _ _ _ _ refl (grid_made (given_few c.requires.1.given) c.fill_edges.ensures) start.0 start.1 c.if-x-n.false _ c.first_overwrite.ensures in
-    (c.is_none.ensures ∙ told.0, told.1)
+    acyclic_found _ _ _ _ _ _ _ refl (grid_made (given_few c.requires.1.given) c.fill_edges.ensures) start.0 start.1 c.if-x-n.false _ c.first_overwrite.ensures
+    _ c.is_none.ensures

@@ -6,7 +6,8 @@ use Rattle.finite.specs.Logic.{◌and◌, and_true}
 use Rattle.finite.specs.Lists.{tabulate, length_tabulate}
 use Rattle.std.specs.declared.result.Result.{Result}
 use Rattle.std.specs.declared.result.Result.TheVariants.{Ok, Err}
-use Rattle.model.specs.Refusal.{Admission, Admitted, Refused}
+use Rattle.model.specs.declared.Admission.{Admission}
+use Rattle.model.specs.declared.Admission.TheVariants.{Admitted, Refused}
 use Rattle.model.specs.declared.Refusal.{Refusal}
 use Rattle.model.specs.declared.CheckAnswer.{CheckAnswer}
 use Rattle.model.specs.declared.CheckAnswer.TheVariants as checks

@@ -13,8 +13,8 @@ use Rattle.finite.specs.Logic.{◌and◌, and_left, and_right, and_false_left, a
 use Rattle.finite.specs.Logic.{not_in, not_out, not_both, which}
 use Rattle.finite.specs.Below.{any_below, any_in, any_off, any_not, any_cong, least, least_is}
 use Rattle.model.specs.declared.Row.{Row}
-use Rattle.model.specs.Refusal.{Admission}
-use Rattle.model.specs.Refusal.{Admitted, Refused}
+use Rattle.model.specs.declared.Admission.{Admission}
+use Rattle.model.specs.declared.Admission.TheVariants.{Admitted, Refused}
 use Rattle.model.specs.Limits.{DEPENDENCIES, INITIAL, BLANK}
 use Rattle.model.specs.Row.{PLAIN_WRITE, ATOMIC_READ, ATOMIC_WRITE, RMW, BARRIER, CONTROL}
 use Rattle.model.specs.Row.{plain, atomic, access, barrier, control, plain_read, reads, ranked, operation, same_instance}

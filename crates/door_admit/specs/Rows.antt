@@ -3,8 +3,8 @@ use Rattle.std.specs.Prelude.{Bool, false, not, cond, List, [], ℕ, leb, eqb}
 use Rattle.finite.specs.Logic.{◌and◌}
 use Rattle.finite.specs.Below.{any_below}
 use Rattle.model.specs.declared.Row.{Row}
-use Rattle.model.specs.Refusal.{Admission}
-use Rattle.model.specs.Refusal.{Admitted}
+use Rattle.model.specs.declared.Admission.{Admission}
+use Rattle.model.specs.declared.Admission.TheVariants.{Admitted}
 use Rattle.model.specs.Limits.{DEPENDENCIES}
 use Rattle.model.specs.Row.{access}
 use Rattle.model.specs.Table.{Mode, row_of, source_of, dependency_count, decode}

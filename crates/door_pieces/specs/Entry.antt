@@ -14,7 +14,9 @@ use Rattle.bits.specs.Bit.{zeros, length_zeros, zeros_in, zeros_out}
 use Rattle.std.specs.declared.result.Result.{Result}
 use Rattle.std.specs.declared.result.Result.TheVariants.{Ok, Err}
 use Rattle.model.specs.declared.Counts.{Counts}
-use Rattle.model.specs.Refusal.{Admission, Admitted, Refused, admission_answer}
+use Rattle.model.specs.declared.Admission.{Admission}
+use Rattle.model.specs.declared.Admission.TheVariants.{Admitted, Refused}
+use Rattle.model.specs.Refusal.{admission_answer}
 use Rattle.model.specs.Limits.{ROWS, WORK}
 use Rattle.model.specs.Table.{Mode, mode_of, row_of, table_under, table_of}
 use Rattle.model.specs.Header.{rows_at, row_bytes, places_of}

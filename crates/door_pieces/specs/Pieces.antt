@@ -4,8 +4,8 @@ use Rattle.std.specs.Prelude.{Bool, cond, List, [], ◌∷◌, ◌++◌, ℕ, �
 use Rattle.std.specs.declared.option.Option.{Option}
 use Rattle.std.specs.declared.option.Option.TheVariants.{None, Some}
 use Rattle.finite.specs.Lists.{tabulate}
-use Rattle.model.specs.Refusal.{Admission}
-use Rattle.model.specs.Refusal.{Refused}
+use Rattle.model.specs.declared.Admission.{Admission}
+use Rattle.model.specs.declared.Admission.TheVariants.{Refused}
 use Rattle.model.specs.declared.Reason.{Reason}
 use Rattle.model.specs.Report.{Told}
 use Rattle.model.specs.Report as told

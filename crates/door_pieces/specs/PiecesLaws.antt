@@ -14,7 +14,7 @@ use Rattle.std.proofs.lemmas.List.{drop-append-le, take-append-le}
 use borrow.Author.Tests.{eqb-true, leb-true, eq-eqb, ne_eqb, le-leb, lt-ltb, le-ltb}
 use Rattle.finite.specs.Logic.{split, and_true, not_both, which}
 use Rattle.finite.specs.Lists.{tabulate, length_tabulate, get_d_tabulate, tabulate_cong}
-use Rattle.model.specs.Refusal.{Refused}
+use Rattle.model.specs.declared.Admission.TheVariants.{Refused}
 use Rattle.model.specs.Limits.{AGENTS, ROWS}
 use Rattle.model.specs.Header.{HEADER, ROW_BYTES, PLACE_BYTES, HOSTS_PLACE_BYTES, DEPENDENCY_BYTES, pair_at, quad_at, count_at, version_at}
 use Rattle.model.specs.Header.{zero_at, agents_at, rows_at, has_hosts, shader_place_at, any_place_at, place_at, slot_at, places_of, rows_begin, rows_end, size_of, row_bytes}

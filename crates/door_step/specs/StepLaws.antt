@@ -5,7 +5,8 @@ use Rattle.std.proofs.Math.Decide.{dec_lt}
 use Rattle.std.proofs.lemmas.Bool.{lt-leb}
 use Rattle.model.specs.Table.{row_of, source_of}
 use Rattle.model.specs.Header.{agents_at, rows_at, row_bytes}
-use Rattle.model.specs.Refusal.{Admitted, Refused, admission, admission_answer}
+use Rattle.model.specs.declared.Admission.TheVariants.{Admitted, Refused}
+use Rattle.model.specs.Refusal.{admission, admission_answer}
 use Rattle.door_step.specs.declared.RowReader.{RowReader}
 use Rattle.std.specs.declared.option.Option.{Option}
 use Rattle.std.specs.declared.option.Option.TheVariants.{None, Some}

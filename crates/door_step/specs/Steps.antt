@@ -8,7 +8,8 @@ use Rattle.model.specs.declared.Row as Rows
 use Rattle.model.specs.declared.Source.{Source}
 use Rattle.model.specs.declared.Entry.{Entry}
 use Rattle.model.specs.declared.Refusal.{Refusal}
-use Rattle.model.specs.Refusal.{Admission, refusal}
+use Rattle.model.specs.declared.Admission.{Admission}
+use Rattle.model.specs.Refusal.{refusal}
 use Rattle.model.specs.Refusal as admit
 use Rattle.model.specs.Table.{row_of, source_of}
 use Rattle.model.specs.Header.{agents_at, rows_at, row_bytes}

@@ -11,8 +11,8 @@ use lib.Seq.{paste, length-paste, take-paste, take_all, ext_get_or, get_or-take}
 use borrow.Author.Tests.{eq-eqb, ne_eqb, le-leb, lt-leb, lt-ltb, le-ltb, leb-true}
 use Rattle.finite.specs.Logic.{split}
 use Rattle.finite.specs.Lists.{tabulate, length_tabulate, get_d_tabulate, Written, written_more, written_all}
-use Rattle.model.specs.Refusal.{Admission}
-use Rattle.model.specs.Refusal.{Admitted, Refused}
+use Rattle.model.specs.declared.Admission.{Admission}
+use Rattle.model.specs.declared.Admission.TheVariants.{Admitted, Refused}
 use Rattle.model.specs.declared.Refusal.{Refusal}
 use Rattle.model.specs.Limits.{AGENTS, ROWS, DEPENDENCIES}
 use Rattle.std.specs.declared.result.Result.{Result}

@@ -5,8 +5,8 @@ use Rattle.std.proofs.Common.{sym, ap, ◌∙◌, subst, inl, inr, ⊎_elim, ari
 use Rattle.std.proofs.lemmas.Bool.{eqb-false, lt-leb}
 use Rattle.finite.specs.Logic.{◌and◌, ◌or◌, which, not_both, not_out, or_cases}
 use Rattle.finite.specs.Below.{least, least_is}
-use Rattle.model.specs.Refusal.{Admission}
-use Rattle.model.specs.Refusal.{Admitted, Refused}
+use Rattle.model.specs.declared.Admission.{Admission}
+use Rattle.model.specs.declared.Admission.TheVariants.{Admitted, Refused}
 use Rattle.model.specs.declared.Row.{Row}
 use Rattle.model.specs.Scope.{agent_kind}
 use Rattle.model.specs.Table.{row_of, source_of, table_of, sources_of, Table}

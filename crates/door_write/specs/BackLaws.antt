@@ -16,8 +16,8 @@ use Rattle.model.specs.Header.{ROW_BYTES, version_at, agents_at, rows_at, has_ho
 use Rattle.model.specs.Table.{dependency_count, dependency_from, dependency_to}
 use Rattle.model.specs.Header.{dependency_bytes}
 use Rattle.model_laws.specs.FilledLaws.{Bytes}
-use Rattle.model.specs.Refusal.{Admission}
-use Rattle.model.specs.Refusal.{Admitted, Refused}
+use Rattle.model.specs.declared.Admission.{Admission}
+use Rattle.model.specs.declared.Admission.TheVariants.{Admitted, Refused}
 use Rattle.model.specs.Refusal.{admission, when_admitted}
 use Rattle.model_laws.specs.AdmissionLaws.{Sound, sound_admitted, admitted_sound, agents_fit, rows_fit, dependencies_fit_lem}
 use Rattle.door_write.specs.declared.Dependencies.{Dependencies}

@@ -11,8 +11,8 @@ use Rattle.std.proofs.Math.Decide.{dec_lt}
 use Rattle.std.proofs.Math.ListN.{take}
 use Rattle.std.proofs.Math.Seq.{drop_at}
 use Rattle.finite.specs.Logic.{◌and◌, ◌or◌, which, not_both}
-use Rattle.model.specs.Refusal.{Admission}
-use Rattle.model.specs.Refusal.{Admitted, Refused}
+use Rattle.model.specs.declared.Admission.{Admission}
+use Rattle.model.specs.declared.Admission.TheVariants.{Admitted, Refused}
 use Rattle.model.specs.Limits.{ROWS}
 use Rattle.model.specs.Table.{row_of, source_of, sources_of, dependency_count}
 use Rattle.model.specs.Header.{ROW_BYTES, version_at, agents_at, rows_at, place_at, places_of, row_bytes, dependency_bytes}

@@ -4,6 +4,8 @@ use Rattle.finite.specs.Logic.{◌and◌}
 use Rattle.finite.specs.Below.{any_below, least}
 use Rattle.std.specs.declared.result.Result.{Result}
 use Rattle.std.specs.declared.result.Result.TheVariants.{Ok, Err}
+use Rattle.model.specs.declared.Admission.{Admission}
+use Rattle.model.specs.declared.Admission.TheVariants.{Admitted, Refused}
 use Rattle.model.specs.declared.Counts.{Counts}
 use Rattle.model.specs.declared.Refusal.{Refusal}
 use Rattle.model.specs.Limits.{AGENTS, ROWS, WORK, DEPENDENCIES}
@@ -15,12 +17,6 @@ use Rattle.model.specs.RowFault.{row_fault}
 use Rattle.model.specs.TableFault.{table_fault}
 
 -- ---- what is said of a table
-
-pub data Admission : Type 0 where
-  -- how many agents and rows it has
-  Admitted : ℕ → ℕ → Admission
-  -- number and row
-  Refused : ℕ → ℕ → Admission
 
 -- a refusal, as a program has it
 abbrev pub refusal : ℕ → ℕ → Refusal
@@ -106,6 +102,10 @@ admission blanks s =
     (Refused (header_fault s) 0)
 
 -- ---- what is said of it
+
+unfoldable pub refusal_of : Admission → Refusal
+refusal_of (Refused n i) = refusal n i
+refusal_of (Admitted a n) = refusal 0 0
 
 -- a refusal as `refused` of its number and row, else v, whatever kind of answer it is
 unfoldable pub when_admitted : {A : Type 0} → (ℕ → ℕ → A) → Admission → A → A

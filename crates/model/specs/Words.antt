@@ -2,7 +2,7 @@
 -- the words of demand 3 over a table's bytes.
 use Rattle.std.specs.Prelude.{◌≡◌, Bool, true, false, List, ◌⊎◌, ℕ, ◌+◌, ◌*◌, ◌≤◌, ◌<◌, length, get_or}
 use Rattle.finite.specs.Closure.{Reach}
-use Rattle.model.specs.Refusal.{Admitted}
+use Rattle.model.specs.declared.Admission.TheVariants.{Admitted}
 use Rattle.model.specs.Limits.{INITIAL, CLASS_SETS}
 use Rattle.model.specs.Table.{Table, table_under, table_of, sources_of}
 use Rattle.model.specs.Header.{ROW_BYTES, agents_at, rows_at, rows_begin}

@@ -3,6 +3,7 @@
 
 ghost use Rattle.std.specs.Prelude.{◌≡◌, eqb, ltb};
 ghost use Rattle.model.specs.Limits.{INITIAL, BLANK};
+ghost use Rattle.model.specs.Refusal.{refusal_of};
 
 // ---- limits
 
@@ -98,11 +99,28 @@ pub struct Entry {
 
 // ---- answers
 
+// What the door says of a table.
+#[derive(Clone, Copy)]
+pub enum Admission {
+    Admitted { agents: u8, rows: u8 },
+    Refused { number: u8, row: u16 },
+}
+
 // The number and the row of a refusal.
 #[derive(Clone, Copy)]
 pub struct Refusal {
     pub number: u8,
     pub row: u16,
+}
+
+// Takes them out. An admission has neither, and is not handed to it: the caller has let it go by `let else`.
+pub fn refusal_of(a: Admission) -> Refusal
+    ensures { result ≡ refusal_of a }
+{
+    match a {
+        Admission::Refused { number, row } => Refusal { number, row },
+        Admission::Admitted { agents: _, rows: _ } => Refusal { number: 0, row: 0 },
+    }
 }
 
 // How many agents and rows a table that is admitted has.

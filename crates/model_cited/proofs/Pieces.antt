@@ -5,7 +5,7 @@ use Rattle.std.specs.Prelude.{◌≡◌, Bool, List, [], ◌++◌, ◌⊎◌, �
 use Rattle.std.specs.declared.option.Option.{Option}
 use Rattle.std.specs.declared.option.Option.TheVariants.{None, Some}
 use Rattle.model.specs.declared.Reason.{Reason}
-use Rattle.model.specs.Refusal.{Admission}
+use Rattle.model.specs.declared.Admission.{Admission}
 use Rattle.model.specs.Report.{Told}
 use Rattle.model.specs.Limits.{CYCLE, SOURCES}
 use Rattle.model.specs.Header.{ROW_BYTES, version_at, agents_at, rows_at, places_of, row_bytes, dependency_bytes}

@@ -8,7 +8,7 @@ use native.Mathlib.Omega.{arith}
 use Rattle.std.proofs.Math.Decide.{dec_lt, ℕ_discrete}
 use borrow.Author.Tests.{ne_eqb, le-leb, lt-leb}
 use Rattle.finite.specs.Logic.{which, not_both}
-use Rattle.model.specs.Refusal.{Refused}
+use Rattle.model.specs.declared.Admission.TheVariants.{Refused}
 use Rattle.model.specs.declared.Reason.{Reason}
 use Rattle.model.specs.Report.{Told}
 use Rattle.model.specs.Limits.{ROWS, CYCLE, SOURCES, STEPS}

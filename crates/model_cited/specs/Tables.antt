@@ -1,8 +1,8 @@
 -- A fill refuses a table or it doesn't. Assumes nothing.
 use Rattle.std.specs.Prelude.{◌≡◌, refl, true, List, ◌⊎◌, ℕ}
 use Rattle.std.proofs.Common.{inl, inr}
-use Rattle.model.specs.Refusal.{Admission}
-use Rattle.model.specs.Refusal.{Admitted, Refused}
+use Rattle.model.specs.declared.Admission.{Admission}
+use Rattle.model.specs.declared.Admission.TheVariants.{Admitted, Refused}
 use Rattle.model.specs.Refusal.{admission}
 use Rattle.model_laws.specs.AdmissionLaws.{admitted_sound, sound_admitted}
 use Rattle.model_promises.specs.Terms.{Fillable, Unfillable}

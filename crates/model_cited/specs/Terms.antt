@@ -1,6 +1,6 @@
 -- The words of Pieces.antt, Writer.antt and Stepping.antt. Those of the promises are in promises/specs/Terms.antt.
 use Rattle.std.specs.Prelude.{◌≡◌, true, false, List, [], ℕ, ◌%◌, ◌≤◌, ◌<◌, length, get_or}
-use Rattle.model.specs.Refusal.{Admitted}
+use Rattle.model.specs.declared.Admission.TheVariants.{Admitted}
 use Rattle.model.specs.declared.Source.{Source}
 use Rattle.model.specs.Limits.{ROWS}
 use Rattle.model.specs.Table.{row_of, sources_of}

@@ -14,7 +14,9 @@ use Rattle.std.specs.declared.result.Result.{Result}
 use Rattle.std.specs.declared.result.Result.TheVariants.{Ok, Err}
 use Rattle.model.specs.declared.Counts.{Counts}
 use Rattle.model.specs.declared.Refusal.{Refusal}
-use Rattle.model.specs.Refusal.{Admission, Admitted, Refused, refusal, admission_answer}
+use Rattle.model.specs.declared.Admission.{Admission}
+use Rattle.model.specs.declared.Admission.TheVariants.{Admitted, Refused}
+use Rattle.model.specs.Refusal.{refusal, admission_answer}
 use Rattle.model.specs.Limits.{AGENTS, ROWS, DEPENDENCIES, LONGEST, BYTES}
 use Rattle.model.specs.Row.{RMW, CONTROL, AVAILABLE_HOST, BOTH, access, control, operation}
 use Rattle.model.specs.Scope.{DEVICE, agent_kind}

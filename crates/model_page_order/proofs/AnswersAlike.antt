@@ -7,7 +7,7 @@ use mathlib.Core.List.{List}
 use Rattle.std.proofs.Math.ListN.{length, get_or, get_or-append}
 use Rattle.finite.specs.Logic.{which}
 use Rattle.finite.specs.Lists.{tabulate, length_tabulate, get_d_tabulate}
-use Rattle.model.specs.Refusal.{Admitted}
+use Rattle.model.specs.declared.Admission.TheVariants.{Admitted}
 use Rattle.model.specs.Limits.{CYCLE, SOURCES}
 use Rattle.model.specs.Table.{Table, table_under, sources_of}
 use Rattle.model.specs.Header.{agents_at, rows_at}

@@ -1,7 +1,7 @@
 -- The same of tables in two pieces, by their joined tables: the proofs of Page.antt. Assumes nothing.
 use Rattle.std.specs.Prelude.{◌≡◌, Bool, true, List, ℕ, ◌<◌, get_or}
 use Rattle.std.proofs.Common.{sym, ap, ◌∙◌}
-use Rattle.model.specs.Refusal.{Admitted}
+use Rattle.model.specs.declared.Admission.TheVariants.{Admitted}
 use Rattle.model.specs.Limits.{CYCLE, SOURCES}
 use Rattle.model.specs.Header.{agents_at, rows_at}
 use Rattle.model.specs.Refusal.{buffers_fit, admission}

@@ -5,8 +5,8 @@ use Rattle.std.proofs.Math.Bool.{true}
 use native.Mathlib.Omega.{arith}
 use Rattle.finite.specs.Logic.{split}
 use Rattle.finite.specs.Below.{least}
-use Rattle.model.specs.Refusal.{Admission}
-use Rattle.model.specs.Refusal.{Admitted, Refused}
+use Rattle.model.specs.declared.Admission.{Admission}
+use Rattle.model.specs.declared.Admission.TheVariants.{Admitted, Refused}
 use Rattle.model.specs.declared.Report.{Report}
 use Rattle.model.specs.Report.{Told}
 use Rattle.model.specs.Report as told

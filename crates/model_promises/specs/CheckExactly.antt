@@ -4,8 +4,8 @@ use Rattle.std.proofs.Common.{sym, ap, ◌∙◌, inl, inr, arith}
 use Rattle.finite.specs.Logic.{which, not_both}
 use Rattle.finite.specs.Walk.{along}
 use Rattle.finite.specs.Cycle.{Lex, less, same, Way, there, onward, Canonical}
-use Rattle.model.specs.Refusal.{Admission}
-use Rattle.model.specs.Refusal.{Admitted, Refused}
+use Rattle.model.specs.declared.Admission.{Admission}
+use Rattle.model.specs.declared.Admission.TheVariants.{Admitted, Refused}
 use Rattle.model.specs.Limits.{CYCLE, WORK}
 use Rattle.model.specs.Table.{Table, table_under, sources_of}
 use Rattle.model.specs.Edge.{edge, edge_number, cycle_row}

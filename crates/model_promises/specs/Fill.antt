@@ -9,7 +9,7 @@ use mathlib.Core.List.{List}
 use Rattle.std.proofs.Math.ListN.{length, get_or}
 use Rattle.finite.specs.Logic.{◌and◌, split, and_true, which, not_both, not_so}
 use Rattle.finite.specs.Lists.{tabulate, length_tabulate, get_d_tabulate}
-use Rattle.model.specs.Refusal.{Admitted}
+use Rattle.model.specs.declared.Admission.TheVariants.{Admitted}
 use Rattle.model.specs.Limits.{SOURCES}
 use Rattle.model.specs.Table.{Table, decode, table_under, sources_of}
 use Rattle.model.specs.Header.{agents_at, rows_at}

@@ -7,7 +7,7 @@ use Rattle.std.proofs.Math.Logic.{inl, inr, ⊎_elim}
 use Rattle.std.proofs.Math.Dec.{eqb}
 use Rattle.finite.specs.Logic.{◌and◌, ◌or◌, split, and_true, or_cases, which, not_both, not_in, not_out}
 use Rattle.finite.specs.Below.{any_not, any_off}
-use Rattle.model.specs.Refusal.{Admitted}
+use Rattle.model.specs.declared.Admission.TheVariants.{Admitted}
 use Rattle.model.specs.Limits.{INITIAL, BLANK}
 use Rattle.model.specs.Row.{plain_read, reads}
 use Rattle.model.specs.Table.{Table, mode_of, table_under, table_of, sources_of, decode}

@@ -16,7 +16,7 @@ use Rattle.finite.specs.Below.{any_below, least, any_off, any_not, Least, least_
 use Rattle.finite.specs.Closure.{Reach, one, more}
 use Rattle.finite.specs.Walk.{walk, trail, along}
 use Rattle.finite.specs.Cycle.{Way, there, onward, length_trail, length_along, trail_way, walk_reach, least_apart}
-use Rattle.model.specs.Refusal.{Admitted}
+use Rattle.model.specs.declared.Admission.TheVariants.{Admitted}
 use Rattle.model.specs.declared.Reason.{Reason}
 use Rattle.model.specs.declared.Reason.TheVariants.{ProgramOrder, Chain}
 use Rattle.model.specs.Limits.{ROWS, STEPS, CASE, CLASS_SETS}

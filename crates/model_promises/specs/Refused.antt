@@ -6,8 +6,8 @@ use Rattle.std.proofs.Common.{sym, arith}
 use Rattle.std.proofs.Math.Logic.{inl, inr, ⊎_elim}
 use Rattle.finite.specs.Logic.{◌and◌, not_both}
 use Rattle.finite.specs.Below.{least}
-use Rattle.model.specs.Refusal.{Admission}
-use Rattle.model.specs.Refusal.{Admitted, Refused}
+use Rattle.model.specs.declared.Admission.{Admission}
+use Rattle.model.specs.declared.Admission.TheVariants.{Admitted, Refused}
 use Rattle.model.specs.declared.Reason.{Reason}
 use Rattle.model.specs.Limits.{CYCLE, SOURCES, STEPS, CLASS_SETS}
 use Rattle.model.specs.Table.{Table, table_under, table_of, sources_of}

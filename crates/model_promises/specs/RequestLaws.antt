@@ -13,8 +13,8 @@ use Rattle.finite.specs.Logic.{◌and◌, ◌or◌, split, not_both, not_so, not
 use Rattle.finite.specs.Below.{any_below, least, any_not}
 use Rattle.finite.specs.Lists.{tabulate, length_tabulate, get_d_tabulate}
 use Rattle.model.specs.declared.Row.{Row}
-use Rattle.model.specs.Refusal.{Admission}
-use Rattle.model.specs.Refusal.{Admitted, Refused}
+use Rattle.model.specs.declared.Admission.{Admission}
+use Rattle.model.specs.declared.Admission.TheVariants.{Admitted, Refused}
 use Rattle.model.specs.Limits.{AGENTS}
 use Rattle.model.specs.Row.{BARRIER, CONTROL, AVAILABLE_HOST, RELAXED, BOTH, control, operation, same_instance, non_private, acquires, releases}
 use Rattle.model.specs.Table.{Table}

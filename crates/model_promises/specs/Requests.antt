@@ -3,7 +3,7 @@
 use Rattle.std.specs.Prelude.{◌≡◌, Bool, true, false, not, List, ◌⊎◌, ◌↔◌, ℕ, ◌*◌, ◌≤◌, ◌<◌, ltb, leb, eqb}
 use Rattle.finite.specs.Logic.{◌and◌, ◌or◌}
 use Rattle.model.specs.declared.Row.{Row}
-use Rattle.model.specs.Refusal.{Refused}
+use Rattle.model.specs.declared.Admission.TheVariants.{Refused}
 use Rattle.model.specs.Row.{BARRIER, RELAXED, BOTH, control, operation, ranked, non_private, acquires, releases}
 use Rattle.model.specs.Table.{Table, row_of, table_under}
 use Rattle.model.specs.Header.{version_at, rows_at, row_bytes}

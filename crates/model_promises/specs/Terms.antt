@@ -3,7 +3,7 @@ use Rattle.std.specs.Prelude.{◌≡◌, Bool, true, false, List, [], ◌⊎◌,
 use Rattle.std.specs.Float.{binary64}
 use Rattle.std.specs.Float.Ieee.{round}
 use Rattle.finite.specs.{Walk.along, Cycle.Canonical, Count.count_pairs}
-use Rattle.model.specs.Refusal.{Admitted, Refused}
+use Rattle.model.specs.declared.Admission.TheVariants.{Admitted, Refused}
 use Rattle.model.specs.declared.{Reason.Reason, Report.Report}
 use Rattle.model.specs.declared.Reason.TheVariants.{ProgramOrder, Chain}
 use Rattle.model.specs.Limits.{CYCLE, SOURCES, STEPS, CLASS_SETS}

@@ -14,7 +14,7 @@ use Rattle.door_pieces.specs.declared.RowPlace.{RowPlace}
 use Rattle.door_pieces.specs.declared.RowPlace.TheVariants as place
 use Rattle.model.specs.Report.{Told}
 use Rattle.model.specs.Report as told
-use Rattle.model.specs.Refusal.{Admission}
+use Rattle.model.specs.declared.Admission.{Admission}
 use Rattle.model.specs.Refusal as admit
 use Rattle.model.specs.Header.{ROW_BYTES}
 use Rattle.door_write.specs.Answer.{WriteAnswer}

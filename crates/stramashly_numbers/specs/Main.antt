@@ -5,7 +5,7 @@
 -- `CODE`, `A`, `B` and `C` (Reading.antt) are the header's macros STRAMASHLY_CODE, _A, _B and _C. `read… r` is the
 -- answer that a number r is read as.
 use Rattle.std.specs.Prelude.{◌≡◌, Bool, true, List, ◌↔◌, ℕ, ◌+◌, ◌*◌, ◌≤◌, ◌<◌, length, take, drop, Float}
-use Rattle.model.specs.Refusal.{Admitted, Refused}
+use Rattle.model.specs.declared.Admission.TheVariants.{Admitted, Refused}
 use Rattle.model.specs.declared.{Reason.Reason, Report.Report}
 use Rattle.model.specs.Report.{Told}
 use Rattle.model.specs.Header.{ROW_BYTES, rows_at, row_bytes}

@@ -7,7 +7,7 @@ use Rattle.std.proofs.Common.{sym, ap, ◌∙◌, arith, eqb-true, leb-true, ltb
 use Prim.Native.Nat.{ℕ, ◌+◌, ◌-◌, ◌*◌, ◌≤◌, ◌<◌}
 use Rattle.std.proofs.Math.Decide.{dec_lt}
 use Rattle.finite.specs.Logic.{split}
-use Rattle.model.specs.Refusal.{Admission}
+use Rattle.model.specs.declared.Admission.{Admission}
 use Rattle.model.specs.Refusal as admit
 use Rattle.model.specs.Limits.{ROWS, AGENTS}
 use Rattle.model.specs.Table.{dependency_count}

@@ -1,11 +1,9 @@
-use mathlib.Core.Path.{sym, ap}
-use Rattle.model.specs.Refusal.{admission_answer}
+use mathlib.Core.Path.{sym}
 use Rattle.door_admit.proofs.Laws.{header_refused, header_passed}
-use Rattle.door_admit.proofs.admit.Goals as goal
+use Rattle.door_admit.proofs.judge.Goals as goal
 
 pub returns-then-fault-ne0 : goal.returns-then-fault-ne0
-unfolding admission_answer
-returns-then-fault-ne0 c = sym (ap admission_answer (header_refused _ _ _ c.header_fault-fault.ensures c.if-fault-ne0.true))
+returns-then-fault-ne0 c = sym (header_refused _ _ _ c.header_fault-fault.ensures c.if-fault-ne0.true)
 
 pub returns : goal.returns
 returns c =
@@ -18,4 +16,4 @@ returns c =
       ← c.is_counted-counted.ensures,
       ← c.row_bytes.ensures,
     )
-    c.admit_rows.ensures
+    c.judge_rows.ensures

@@ -1,10 +1,9 @@
 // The reader of derivations, whoever wrote them: kept apart from the engine, and small, to be read in one sitting.
 #![tactic(auto)]
-
 ghost use Rattle.std.specs.Prelude.{◌≡◌, true, ◌*◌, ◌/◌, ◌≤◌, ◌<◌, eqb};
 ghost use Rattle.finite.specs.Logic.{◌and◌};
 ghost use Rattle.model.specs.Limits.{ROWS};
-ghost use Rattle.run.specs.Layout.{table_in};
+ghost use Rattle.run.specs.Layout.{table_of};
 ghost use Rattle.model.specs.Moment.{moment};
 ghost use Rattle.model.specs.Synchronizes.{synchronizes};
 ghost use Rattle.model.specs.Happens.{CASES, by_system, direct};
@@ -27,72 +26,72 @@ struct Ends {
 }
 
 // Whether the table has a moment m.
-fn is_there(t: &Run, n: usize, m: u16) -> bool
-    ensures { result ≡ moment (table_in t.now n) m }
+fn is_there(t: &Run, m: u16) -> bool
+    ensures { result ≡ moment (table_of t.now) m }
 {
-    moments::moment_in(n, run::row(t, m / 3), m as usize)
+    moments::moment_in(t.rows, t.row(m / 3), m as usize)
 }
 
 // Whether m and k are the own moments of two rows of which the first system-synchronizes-with the second, as the last case asks. All
 // dependencies are read for that, so for no other.
-fn is_system(t: &Run, n: usize, case: u16, m: u16, k: u16) -> bool
-    ensures { result ≡ (eqb case CASES and by_system (table_in t.now n) m k) }
+fn is_system(t: &Run, case: u16, m: u16, k: u16) -> bool
+    ensures { result ≡ (eqb case CASES and by_system (table_of t.now) m k) }
 {
     if !(case == cases::CASES) {
         return false;
     }
-    ((m % 3) as u8 == moments::AT) & ((k % 3) as u8 == moments::AT) & run::depends(t, m / 3, k / 3)
+    ((m % 3) as u8 == moments::AT) & ((k % 3) as u8 == moments::AT) & t.depends(m / 3, k / 3)
 }
 
 // Whether the row of moment m synchronizes-with the row of moment k, as the first case asks. That walks over all rows, so no other does.
-fn is_synced(t: &Run, n: usize, case: u16, m: u16, k: u16) -> bool
-    requires { (n ≤ ROWS) × (m < 3 * n) × (k < 3 * n) }
-    ensures { result ≡ (eqb case 1 and synchronizes (table_in t.now n) (m / 3) (k / 3)) }
+fn is_synced(t: &Run, case: u16, m: u16, k: u16) -> bool
+    requires { (t.now.rows ≤ ROWS) × (m < 3 * t.now.rows) × (k < 3 * t.now.rows) }
+    ensures { result ≡ (eqb case 1 and synchronizes (table_of t.now) (m / 3) (k / 3)) }
 {
     if !(case == 1) {
         return false;
     }
-    sync::sync_at(t, n, (m / 3) as usize, (k / 3) as usize)
+    sync::sync_at(t, (m / 3) as usize, (k / 3) as usize)
 }
 
 // M6: whether the direct case of this number leads from the first moment to the second for the class set s.
-fn is_direct(t: &Run, n: usize, s: u8, case: u16, e: Ends) -> bool
-    requires { (n ≤ ROWS) × (e.first < 3 * n) × (e.second < 3 * n) }
-    ensures { result ≡ direct (table_in t.now n) s case e.first e.second }
+fn is_direct(t: &Run, s: u8, case: u16, e: Ends) -> bool
+    requires { (t.now.rows ≤ ROWS) × (e.first < 3 * t.now.rows) × (e.second < 3 * t.now.rows) }
+    ensures { result ≡ direct (table_of t.now) s case e.first e.second }
 {
     let m = e.first;
     let k = e.second;
-    let r = run::row(t, m / 3);
-    let q = run::row(t, k / 3);
-    let b = is_synced(t, n, case, m, k);
-    let o = moments::is_ordered(n, m as usize, k as usize, r, q);
-    cases::is_case(case, s, (m % 3) as u8, (k % 3) as u8, r, q, b, o) | is_system(t, n, case, m, k)
+    let r = t.row(m / 3);
+    let q = t.row(k / 3);
+    let b = is_synced(t, case, m, k);
+    let o = moments::is_ordered(t.rows, m as usize, k as usize, r, q);
+    cases::is_case(case, s, (m % 3) as u8, (k % 3) as u8, r, q, b, o) | is_system(t, case, m, k)
 }
 
 // Whether the step x, CASE × its case + the moment that it reaches, holds from moment m for the class set s.
-fn is_step(t: &Run, n: usize, s: u8, m: u16, x: u16) -> bool
-    requires { (n ≤ ROWS) × (m < 3 * n) }
-    ensures { result ≡ step_holds (table_in t.now n) s m x }
+fn is_step(t: &Run, s: u8, m: u16, x: u16) -> bool
+    requires { (t.now.rows ≤ ROWS) × (m < 3 * t.now.rows) }
+    ensures { result ≡ step_holds (table_of t.now) s m x }
 {
     let k = x % model::CASE;
-    if !is_there(t, n, k) {
+    if !is_there(t, k) {
         return false;
     }
     let e = Ends {
         first: m,
         second: k,
     };
-    is_direct(t, n, s, x / model::CASE, e)
+    is_direct(t, s, x / model::CASE, e)
 }
 
 // Whether steps that hold for the class set s, each from where the one before ends, lead from the first moment to the second.
-fn is_chain(t: &Run, n: usize, s: u8, e: Ends, steps: &[u16]) -> bool
-    requires { (n ≤ ROWS) × (e.first < 3 * n) }
-    ensures { result ≡ leads_to (table_in t.now n) s e.first e.second steps.now }
+fn is_chain(t: &Run, s: u8, e: Ends, steps: &[u16]) -> bool
+    requires { (t.now.rows ≤ ROWS) × (e.first < 3 * t.now.rows) }
+    ensures { result ≡ leads_to (table_of t.now) s e.first e.second steps.now }
 {
     let mut m = e.first;
     for x in steps {
-        if !is_step(t, n, s, m, *x) {
+        if !is_step(t, s, m, *x) {
             return false;
         }
         m = *x % model::CASE;
@@ -101,29 +100,29 @@ fn is_chain(t: &Run, n: usize, s: u8, e: Ends, steps: &[u16]) -> bool
 }
 
 // Whether the derivation is accepted that the first moment happens before the second.
-fn is_accepted(t: &Run, n: usize, e: Ends, why: Reason, steps: &[u16]) -> bool
-    requires { (n ≤ ROWS) × (e.first < 3 * n) × (e.second < 3 * n) }
-    ensures { result ≡ accepts (table_in t.now n) e.first e.second why steps.now }
+fn is_accepted(t: &Run, e: Ends, why: Reason, steps: &[u16]) -> bool
+    requires { (t.now.rows ≤ ROWS) × (e.first < 3 * t.now.rows) × (e.second < 3 * t.now.rows) }
+    ensures { result ≡ accepts (table_of t.now) e.first e.second why steps.now }
 {
     let count = steps.len();
     let Reason::Chain(s) = why else {
-        return (count == 0) & moments::ordered_at(t, n, e.first as usize, e.second as usize);
+        return (count == 0) & moments::ordered_at(t, e.first as usize, e.second as usize);
     };
     if !((0 < s) & (s <= cases::CLASS_SETS) & (0 < count) & (count <= model::CHAIN)) {
         return false;
     }
-    is_chain(t, n, s, e, steps)
+    is_chain(t, s, e, steps)
 }
 
 // Whether the derivation is accepted, of the n rows of a table that is admitted; refusal 12, where it is not of two of its moments.
-fn judge_rows(t: &Run, n: usize, e: Ends, reason: Reason, steps: &[u16]) -> Result<bool, Refusal>
-    requires { RunOf true t.now n }
-    ensures { result ≡ accept_answer (judged (table_in t.now n) e.first e.second reason steps.now) }
+fn judge_rows(t: &Run, e: Ends, reason: Reason, steps: &[u16]) -> Result<bool, Refusal>
+    requires { RunOf true t.now.bytes t.now.rows }
+    ensures { result ≡ accept_answer (judged (table_of t.now) e.first e.second reason steps.now) }
 {
-    if !(is_there(t, n, e.first) & is_there(t, n, e.second) & !(e.first == e.second)) {
+    if !(is_there(t, e.first) & is_there(t, e.second) & !(e.first == e.second)) {
         return Err(Refusal { number: 12, row: 0 });
     }
-    Ok(is_accepted(t, n, e, reason, steps))
+    Ok(is_accepted(t, e, reason, steps))
 }
 
 // Judges a derivation that moment m happens before moment k in a table in two pieces, of any bytes and any two numbers: a refusal, or
@@ -139,13 +138,12 @@ pub fn accepts_both(
 ) -> Result<bool, Refusal>
     ensures { result ≡ accept_answer (judge_both first.now second.now m k reason steps.now) }
 {
-    let mut t = [0u8; run::SIZE];
-    let counts = door_open::enter(first, second, false, true, 0, model::WORK, 0, &mut t)?;
+    let t = door_open::enter(first, second, false, true, 0, model::WORK, 0)?;
     let e = Ends {
         first: m,
         second: k,
     };
-    judge_rows(&t, counts.rows as usize, e, reason, steps)
+    judge_rows(&t, e, reason, steps)
 }
 
 // Judges a derivation that the first moment happens before the second in a table in one piece.

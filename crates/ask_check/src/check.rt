@@ -3,7 +3,7 @@ ghost use Rattle.std.specs.Prelude.{◌≡◌, false, Ok};
 ghost use Rattle.model.specs.Limits.{CYCLE};
 ghost use Rattle.model.specs.Table.{source_of};
 ghost use Rattle.model.specs.Check.{verdict, check_answer, cycle_after, wiped};
-ghost use Rattle.run.specs.Layout.{rows_in, table_in};
+ghost use Rattle.run.specs.Layout.{rows_in, table_of};
 ghost use Rattle.door_open.specs.Opened.{RunOf};
 ghost use Rattle.model_placing.specs.Judge.{Sourced};
 ghost use Rattle.sets_of_table.specs.Fit.{FitRun};
@@ -16,25 +16,25 @@ use model::{CheckAnswer, Refusal};
 use run::Run;
 
 // The verdict on a run of n rows, by the engine by sets, or by the flags engine.
-fn judge_by(sets: bool, t: &Run, n: usize, src: &[u16], w: &mut [u64], c: &mut [u16]) -> CheckAnswer
-    requires { FitRun t.now n × Buffers CYCLE w.old c.old × Sources (table_in t.now n) n src.now }
-    ensures { Judges (table_in t.now n) (source_in src.now) result
+fn judge_by(sets: bool, t: &Run, src: &[u16], w: &mut [u64], c: &mut [u16]) -> CheckAnswer
+    requires { FitRun t.now.bytes t.now.rows × Buffers CYCLE w.old c.old × Sources (table_of t.now) t.now.rows src.now }
+    ensures { Judges (table_of t.now) (source_in src.now) result
         w.old w.new c.old c.new }
 {
     if sets {
-        return crate::by_sets::judge(t, n, src, w, c);
+        return crate::by_sets::judge(t, src, w, c);
     }
-    crate::by_flags::judge(t, n, src, w, c)
+    crate::by_flags::judge(t, src, w, c)
 }
 
 // The same with the table's own sources; the work area's words end as zeros.
-fn judge_run(t: &Run, n: usize, sets: bool, work: &mut [u64], cycle: &mut [u16]) -> CheckAnswer
-    requires { Buffers CYCLE work.old cycle.old × RunOf false t.now n × Sourced (table_in t.now n) (source_of (rows_in t.now)) }
-    ensures { let v = verdict (table_in t.now n) (source_of (rows_in t.now)) in
+fn judge_run(t: &Run, sets: bool, work: &mut [u64], cycle: &mut [u16]) -> CheckAnswer
+    requires { Buffers CYCLE work.old cycle.old × RunOf false t.now.bytes t.now.rows × Sourced (table_of t.now) (source_of (rows_in t.now.bytes)) }
+    ensures { let v = verdict (table_of t.now) (source_of (rows_in t.now.bytes)) in
         (Ok result ≡ check_answer v) × (work.new ≡ wiped work.old) × (cycle.new ≡ cycle_after v cycle.old) }
 {
-    let src = find_sources::sources::read_sources(t, n);
-    let r = judge_by(sets, t, n, &src, work, cycle);
+    let src = find_sources::sources::read_sources(t);
+    let r = judge_by(sets, t, &src, work, cycle);
     bits::clear(work, 0, model::WORK);
     r
 }
@@ -55,8 +55,7 @@ pub fn check_by(
     ensures { CheckedBoth chains first.now second.now result
         work.old work.new cycle.old cycle.new }
 {
-    let mut t = [0u8; run::SIZE];
-    let counts = door_open::enter(
+    let t = door_open::enter(
         first,
         second,
         chains,
@@ -64,15 +63,8 @@ pub fn check_by(
         model::CYCLE,
         work.len(),
         cycle.len(),
-        &mut t,
     )?;
-    Ok(judge_run(
-        &t,
-        counts.rows as usize,
-        sets,
-        work,
-        cycle,
-    ))
+    Ok(judge_run(&t, sets, work, cycle))
 }
 
 // The same, by sets of rows.
@@ -92,7 +84,12 @@ pub fn check_both(
 
 // Judges one recorded run in one piece.
 // Ruled out: one that answers race-free to every table; one that takes the table for its own second piece too.
-pub fn check(table: &[u8], chains: bool, work: &mut [u64], cycle: &mut [u16]) -> Result<CheckAnswer, Refusal>
+pub fn check(
+    table: &[u8],
+    chains: bool,
+    work: &mut [u64],
+    cycle: &mut [u16],
+) -> Result<CheckAnswer, Refusal>
     ensures { Checked chains table.now result work.old work.new cycle.old cycle.new }
 {
     check_both(table, &table[..0], chains, work, cycle)

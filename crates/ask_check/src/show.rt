@@ -1,7 +1,7 @@
 // The cycle that a check shows, in the lent buffer: its rows from place 0, its edge numbers from place CYCLE_EDGES, other places zero.
 ghost use Rattle.std.specs.Prelude.{◌≡◌, cond, ◌+◌, ◌≤◌, ◌<◌, length, get_or, ltb};
 ghost use Rattle.model.specs.Limits.{CYCLE, CYCLE_EDGES};
-ghost use Rattle.run.specs.Layout.{table_in};
+ghost use Rattle.run.specs.Layout.{table_of};
 ghost use Rattle.model.specs.Edge.{cycle_rows, cycle_edges};
 ghost use Rattle.model.specs.Check.{cycle_after, cyclic};
 ghost use Rattle.bits.specs.Bit.{zeros};
@@ -36,31 +36,31 @@ fn next_of(c: &[u16], i: usize, size: usize, x: usize) -> usize
 }
 
 // The lowest edge number of each step of the cycle that stands in c and starts at x.
-fn write_edges(t: &Run, n: usize, src: &[u16], x: usize, size: usize, w: &[u64], c: &mut [u16])
-    requires { CycleIn n x size c.old × (n ≤ length src.now) × Ready (table_in t.now n) n w.now }
-    ensures { let t = table_in t.entry.now n in
-        Numbered (step_number t (source_in src.now) x size c.old) size c.old c.new }
+fn write_edges(t: &Run, src: &[u16], x: usize, size: usize, w: &[u64], c: &mut [u16])
+    requires { CycleIn t.now.rows x size c.old × (t.now.rows ≤ length src.now) × Ready (table_of t.now) t.now.rows w.now }
+    ensures { let table = table_of t.now in
+        Numbered (step_number table (source_in src.now) x size c.old) size c.old c.new }
 {
     for i in 0..size {
         let a = wide(c[i]);
         let b = next_of(c, i, size, x);
-        let e = find_axioms::edges::edge_number(t, n, src, a, b, w);
+        let e = find_axioms::edges::edge_number(t, src, a, b, w);
         c[model::CYCLE_EDGES + i] = e;
     }
 }
 
 // Shows the cycle of the edges that starts at its lowest row x, and gives its length.
 // Ruled out: one that leaves an old number after the cycle's rows; one that gives the last step the edge to the row after it.
-pub fn show_cycle(t: &Run, n: usize, src: &[u16], x: usize, w: &mut [u64], c: &mut [u16]) -> usize
-    requires { (CYCLE ≤ length c.old) × (n ≤ length src.now) × CycleFrom (table_in t.now n) (source_in src.now) n x w.old }
-    ensures { let t = table_in t.entry.now n in
-        (result ≡ length (cycle_rows t (source_in src.now)))
-        × (c.new ≡ cycle_after (cyclic (cycle_rows t (source_in src.now)) (cycle_edges t (source_in src.now))) c.old)
+pub fn show_cycle(t: &Run, src: &[u16], x: usize, w: &mut [u64], c: &mut [u16]) -> usize
+    requires { (CYCLE ≤ length c.old) × (t.now.rows ≤ length src.now) × CycleFrom (table_of t.now) (source_in src.now) t.now.rows x w.old }
+    ensures { let table = table_of t.now in
+        (result ≡ length (cycle_rows table (source_in src.now)))
+        × (c.new ≡ cycle_after (cyclic (cycle_rows table (source_in src.now)) (cycle_edges table (source_in src.now))) c.old)
         × Within LAYERS LAYERS_END w.old w.new }
 {
-    let size = work_walks::EDGES.fill_until(w, n, x) + 1;
+    let size = work_walks::EDGES.fill_until(w, t.rows, x) + 1;
     clear_numbers(c);
-    find_cycle::write_rows(w, n, x, size, c);
-    write_edges(t, n, src, x, size, w, c);
+    find_cycle::write_rows(w, t.rows, x, size, c);
+    write_edges(t, src, x, size, w, c);
     size
 }

@@ -7,7 +7,7 @@ ghost use Rattle.bits.specs.Matrix.{rel};
 ghost use Rattle.bits.specs.Within.{Within};
 ghost use Rattle.model.specs.Limits.{ROWS, WORK, STEPS, CLASS_SETS};
 ghost use Rattle.model.specs.Table.{row_of};
-ghost use Rattle.run.specs.Layout.{rows_in, table_in};
+ghost use Rattle.run.specs.Layout.{rows_in, table_of};
 ghost use Rattle.model.specs.Moment.{program_order};
 ghost use Rattle.model.specs.Happens.{CASES};
 ghost use Rattle.model.specs.Reason.{has_chain_by, step_number};
@@ -27,16 +27,16 @@ use run_rows::{cases, moments};
 // The least c for which some chain for the class set c + 1 leads from the first moment to the second; CLASS_SETS where there is none.
 // Where there is one, its steps and their layers are left in the work area.
 // Ruled out: one that gives a higher class set where a lower one has a chain; one that counts a moment as a chain to itself.
-pub fn find_set(t: &Run, n: usize, first: usize, second: usize, w: &mut [u64]) -> u8
-    requires { TwoOf (3 * n) first second × (WORK ≤ length w.old) × Synced (table_in t.now n) n w.old }
-    ensures { (result ≡ least CLASS_SETS (has_chain_by (table_in t.now n) first second))
+pub fn find_set(t: &Run, first: usize, second: usize, w: &mut [u64]) -> u8
+    requires { TwoOf (3 * t.now.rows) first second × (WORK ≤ length w.old) × Synced (table_of t.now) t.now.rows w.old }
+    ensures { (result ≡ least CLASS_SETS (has_chain_by (table_of t.now) first second))
         × Within HAPPENS CHAINS_END w.old w.new
-        × (result < CLASS_SETS → Layered (table_in t.now n) n (result + 1) second w.new) }
+        × (result < CLASS_SETS → Layered (table_of t.now) t.now.rows (result + 1) second w.new) }
 {
     for c in 0..cases::CLASS_SETS {
-        layers::make_layers(t, n, c + 1, second, w);
-        let j = work_walks::STEPS.layer_of(w, 3 * n, first);
-        if j < 3 * n {
+        layers::make_layers(t, c + 1, second, w);
+        let j = work_walks::STEPS.layer_of(w, 3 * t.rows, first);
+        if j < 3 * t.rows {
             return c;
         }
     }
@@ -59,25 +59,25 @@ fn case_of(s: u8, from: u8, to: u8, r: Row, q: Row, synced: bool, ordered: bool)
 }
 
 // The same of moments m and k of a table.
-fn case_at(t: &Run, n: usize, s: u8, m: usize, k: usize, synced: bool) -> u16
-    requires { (n ≤ ROWS) × (m < 3 * n) × (k < 3 * n) }
-    ensures { let r = row_of (rows_in t.now) (m / 3) in
-        let q = row_of (rows_in t.now) (k / 3) in
-        (result ≤ CASES) × (result ≡ lowest_rows s (m % 3) (k % 3) r q synced (program_order (table_in t.now n) m k)) }
+fn case_at(t: &Run, s: u8, m: usize, k: usize, synced: bool) -> u16
+    requires { (t.now.rows ≤ ROWS) × (m < 3 * t.now.rows) × (k < 3 * t.now.rows) }
+    ensures { let r = row_of (rows_in t.now.bytes) (m / 3) in
+        let q = row_of (rows_in t.now.bytes) (k / 3) in
+        (result ≤ CASES) × (result ≡ lowest_rows s (m % 3) (k % 3) r q synced (program_order (table_of t.now) m k)) }
 {
-    let ordered = moments::ordered_at(t, n, m, k);
-    let r = run::row(t, (m / 3) as u16);
-    let q = run::row(t, (k / 3) as u16);
+    let ordered = moments::ordered_at(t, m, k);
+    let r = t.row((m / 3) as u16);
+    let q = t.row((k / 3) as u16);
     case_of(s, (m % 3) as u8, (k % 3) as u8, r, q, synced, ordered)
 }
 
 // The number of the step from moment m to moment k.
-fn step_number(t: &Run, n: usize, s: u8, m: usize, k: usize, w: &[u64]) -> u16
-    requires { TwoOf (3 * n) m k × (WORK ≤ length w.now) × Synced (table_in t.now n) n w.now }
-    ensures { result ≡ step_number (table_in t.now n) s m k }
+fn step_number(t: &Run, s: u8, m: usize, k: usize, w: &[u64]) -> u16
+    requires { TwoOf (3 * t.now.rows) m k × (WORK ≤ length w.now) × Synced (table_of t.now) t.now.rows w.now }
+    ensures { result ≡ step_number (table_of t.now) s m k }
 {
     let b = work_area::grid::SYNC.get(w, m / 3, k / 3);
-    let d = case_at(t, n, s, m, k, b);
+    let d = case_at(t, s, m, k, b);
     model::CASE * d + (k as u16)
 }
 
@@ -86,7 +86,6 @@ fn step_number(t: &Run, n: usize, s: u8, m: usize, k: usize, w: &[u64]) -> u16
 // Ruled out: one that writes the moment that a step starts at; one that goes into a layer of chains that are longer than what is left.
 pub fn write_steps(
     t: &Run,
-    n: usize,
     s: u8,
     first: usize,
     second: usize,
@@ -94,14 +93,14 @@ pub fn write_steps(
     w: &[u64],
     c: &mut [u16],
 )
-    requires { (STEPS ≤ length c.old) × Leading n first second size w.now × Synced (table_in t.now n) n w.now }
-    ensures { Written (along (step_number (table_in t.now n) s) second
-        (trail (3 * n) (rel w.now STEP MOMENTS) second size first)) size c.old c.new }
+    requires { (STEPS ≤ length c.old) × Leading t.now.rows first second size w.now × Synced (table_of t.now) t.now.rows w.now }
+    ensures { Written (along (step_number (table_of t.now) s) second
+        (trail (3 * t.now.rows) (rel w.now STEP MOMENTS) second size first)) size c.old c.new }
 {
     let mut z = first;
     for i in 0..size {
-        let y = work_walks::STEPS.next(w, 3 * n, size - i - 1, z);
-        c[i] = step_number(t, n, s, z, y, w);
+        let y = work_walks::STEPS.next(w, 3 * t.rows, size - i - 1, z);
+        c[i] = step_number(t, s, z, y, w);
         z = y;
     }
 }

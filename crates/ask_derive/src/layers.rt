@@ -2,7 +2,7 @@
 // lead there. Bits of a lent work area.
 ghost use Rattle.std.specs.Prelude.{◌*◌, ◌≤◌, ◌<◌, length};
 ghost use Rattle.model.specs.Limits.{WORK};
-ghost use Rattle.run.specs.Layout.{table_in};
+ghost use Rattle.run.specs.Layout.{table_of};
 ghost use Rattle.work_area.specs.Synced.{Synced};
 ghost use Rattle.ask_derive.specs.Layers.{MadeLayered};
 
@@ -10,10 +10,10 @@ use run::Run;
 
 // M6: the direct cases for the class set s, and the layers of chains of them to moment x.
 // Ruled out: one that makes the layers from the steps of another class set; one that follows chains that lead from x.
-pub fn make_layers(t: &Run, n: usize, s: u8, x: usize, w: &mut [u64])
-    requires { (x < 3 * n) × (WORK ≤ length w.old) × Synced (table_in t.now n) n w.old }
-    ensures { MadeLayered (table_in t.now n) n s x w.old w.new }
+pub fn make_layers(t: &Run, s: u8, x: usize, w: &mut [u64])
+    requires { (x < 3 * t.now.rows) × (WORK ≤ length w.old) × Synced (table_of t.now) t.now.rows w.old }
+    ensures { MadeLayered (table_of t.now) t.now.rows s x w.old w.new }
 {
-    flags_order::steps::fill_step(t, n, s, w);
-    work_walks::STEPS.fill_layers(w, 3 * n, x);
+    flags_order::steps::fill_step(t, s, w);
+    work_walks::STEPS.fill_layers(w, 3 * t.rows, x);
 }

@@ -1,13 +1,12 @@
 // Fills: the source of each blank of a table in one or two pieces, or why there is none.
 #![tactic(auto)]
-
 ghost use Rattle.std.specs.Prelude.{◌≡◌, true, ◌≤◌, length, Ok};
 ghost use Rattle.model.specs.Limits.{SOURCES};
 ghost use Rattle.model.specs.Table.{source_of};
 ghost use Rattle.model.specs.Check.{wiped};
 ghost use Rattle.model.specs.Fill.{outcome, fill_answer, sources_after};
 ghost use Rattle.model_laws.specs.FilledLaws.{Bytes};
-ghost use Rattle.run.specs.Layout.{rows_in, table_in};
+ghost use Rattle.run.specs.Layout.{rows_in, table_of};
 ghost use Rattle.door_open.specs.Opened.{RunOf};
 ghost use Rattle.sets_of_table.specs.Fit.{FitRun};
 ghost use Rattle.find_axioms.specs.Sources.{source_in};
@@ -26,29 +25,28 @@ pub mod by_sets; // the engine by sets of rows
 fn fill_run_by(
     sets: bool,
     t: &Run,
-    n: usize,
     src: &[u16],
     w: &mut [u64],
     out: &mut [u16],
 ) -> FillAnswer
-    requires { FitRun t.now n × Buffers SOURCES w.old out.old × (n ≤ length src.now) }
-    ensures { Fills (table_in t.now n) (source_in src.now) result
+    requires { FitRun t.now.bytes t.now.rows × Buffers SOURCES w.old out.old × (t.now.rows ≤ length src.now) }
+    ensures { Fills (table_of t.now) (source_in src.now) result
         w.old w.new out.old out.new }
 {
     if sets {
-        return by_sets::fill(t, n, src, w, out);
+        return by_sets::fill(t, src, w, out);
     }
-    by_flags::fill(t, n, src, w, out)
+    by_flags::fill(t, src, w, out)
 }
 
 // The same with the table's own sources; the work area's words end as zeros.
-fn fill_run(t: &Run, n: usize, sets: bool, work: &mut [u64], sources: &mut [u16]) -> FillAnswer
-    requires { Buffers SOURCES work.old sources.old × RunOf true t.now n }
-    ensures { let o = outcome (table_in t.now n) (source_of (rows_in t.now)) in
+fn fill_run(t: &Run, sets: bool, work: &mut [u64], sources: &mut [u16]) -> FillAnswer
+    requires { Buffers SOURCES work.old sources.old × RunOf true t.now.bytes t.now.rows }
+    ensures { let o = outcome (table_of t.now) (source_of (rows_in t.now.bytes)) in
         (Ok result ≡ fill_answer o) × (work.new ≡ wiped work.old) × (sources.new ≡ sources_after o sources.old) }
 {
-    let src = find_sources::sources::read_sources(t, n);
-    let r = fill_run_by(sets, t, n, &src, work, sources);
+    let src = find_sources::sources::read_sources(t);
+    let r = fill_run_by(sets, t, &src, work, sources);
     bits::clear(work, 0, model::WORK);
     r
 }
@@ -80,20 +78,9 @@ pub fn fill_by(
 {
     first_byte(first);
     first_byte(second);
-    let mut t = [0u8; run::SIZE];
-    let counts = door_open::enter(
-        first,
-        second,
-        chains,
-        true,
-        model::SOURCES,
-        work.len(),
-        sources.len(),
-        &mut t,
-    )?;
+    let t = door_open::enter(first, second, chains, true, model::SOURCES, work.len(), sources.len())?;
     Ok(fill_run(
         &t,
-        counts.rows as usize,
         sets,
         work,
         sources,

@@ -1,6 +1,6 @@
 // The four counts of a table, and the share.
 ghost use Rattle.std.specs.Prelude.{◌≡◌, Ok};
-ghost use Rattle.run.specs.Layout.{table_in};
+ghost use Rattle.run.specs.Layout.{table_of};
 ghost use Rattle.model.specs.Report.{share_of, report_on, told_answer};
 ghost use Rattle.sets_grids.specs.Location.{ToJudge};
 
@@ -20,11 +20,11 @@ pub fn share(racing: u16, conflicting: u16) -> Option<f64>
 
 // The report of a table that is consistent.
 // Ruled out: one that exchanges the mutually-ordered and the ordered pairs; one that reports a share of 0.0 where no pair conflicts.
-pub fn report_of(t: &Run, n: usize, s: &[u64], w: &[u64]) -> ReportAnswer
-    requires { ToJudge (table_in t.now n) n s.now w.now }
-    ensures { Ok result ≡ told_answer (report_on (table_in t.now n)) }
+pub fn report_of(t: &Run, s: &[u64], w: &[u64]) -> ReportAnswer
+    requires { ToJudge (table_of t.now) t.now.rows s.now w.now }
+    ensures { Ok result ≡ told_answer (report_on (table_of t.now)) }
 {
-    let c = sets_races::count_pairs(t, n, s, w);
+    let c = sets_races::count_pairs(t, s, w);
     let racing = c.conflicting - c.mutuals - c.ordered;
     let Some(part) = share(racing, c.conflicting) else {
         return ReportAnswer::NoPairs;

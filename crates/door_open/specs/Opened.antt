@@ -5,6 +5,7 @@ use Rattle.std.proofs.Common.{sym, ap, ◌∙◌, arith}
 use Rattle.std.proofs.Math.Decide.{dec_lt}
 use Rattle.std.proofs.Math.ListN.{get_or-eq_default}
 use Rattle.finite.specs.Lists.{tabulate, length_tabulate, get_d_tabulate}
+use Rattle.std.specs.Result.{MatchResult}
 use Rattle.std.specs.declared.result.Result.{Result}
 use Rattle.std.specs.declared.result.Result.TheVariants.{Ok, Err}
 use Rattle.model.specs.declared.Counts.{Counts}
@@ -17,6 +18,7 @@ use Rattle.model.specs.Header.{ROW_BYTES, rows_at, row_bytes, places_of, pair_at
 use Rattle.door_pieces.specs.Pieces.{AREA, area_of, pieces_fault, joined}
 use Rattle.door_pieces.specs.PiecesLaws.{both_fit, bytes_length, joined_bytes, joined_places, joined_mode}
 use Rattle.door_pieces.specs.Entry.{RowsOf, door_both, door_admits, pieces_right, sound_both, all_both}
+use Rattle.run.specs.declared.Run.{Run}
 use Rattle.run.specs.Layout.{places_in, mode_in, rows_in, table_in}
 use Rattle.door_open.specs.Laid.{Laid, flag_byte, laid_rows, laid_places, laid_mode}
 
@@ -37,6 +39,13 @@ pub record Entered (needs : ℕ) (blanks chains : Bool) (f s : List ℕ) (work b
 -- what a door leaves in t: the run, where it admits
 abbrev pub Opens : ℕ → Bool → Bool → List ℕ → List ℕ → ℕ → ℕ → Result Counts Refusal → List ℕ → Type 0
 Opens needs blanks chains f s work buffer a t = (k : Counts) → a ≡ Ok k → Entered needs blanks chains f s work buffer t k.rows
+
+-- what an entry point goes on with: the run of the pieces, where the door admits them; else their refusal
+abbrev pub Enters : ℕ → Bool → Bool → List ℕ → List ℕ → ℕ → ℕ → Result Run Refusal → Type 0
+Enters needs blanks chains f s work buffer r =
+    let said = admission_answer (door_both needs blanks f s work buffer) in
+    MatchResult r (λ run. ((g : ℕ) × (said ≡ Ok (record { agents = g; rows = run.rows })) × Entered needs blanks chains f s work buffer run.bytes run.rows))
+    (λ e. said ≡ Err e)
 
 -- ---- laws: rows that are the same byte by byte
 

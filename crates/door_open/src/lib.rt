@@ -8,10 +8,11 @@ ghost use Rattle.door_pieces.specs.Pieces.{AREA, early_fault, admission_both};
 ghost use Rattle.door_pieces.specs.Entry.{door_both};
 ghost use Rattle.run.specs.Layout.{SIZE, DEPENDS, ROWS_AT};
 ghost use Rattle.door_open.specs.Laid.{Put, Laid, head_of, place_byte, place_count};
-ghost use Rattle.door_open.specs.Opened.{Opens};
+ghost use Rattle.door_open.specs.Opened.{Opens, Enters};
 
 use door_rows::{bytes, pick};
 use model::{Counts, Refusal};
+use run::Run;
 
 // The bytes of all dependencies, and of all rows, that there may be.
 const DEPENDS_SIZE: usize = 258;
@@ -102,7 +103,7 @@ fn admit(first: &[u8], second: &[u8], t: &[u8], blanks: bool) -> Result<Counts, 
 // Refusal 11, from the lengths of the work area and of another buffer, which must hold so many numbers; then every refusal of the pieces; or
 // their counts, and in t, which comes with zeros, their run.
 // Ruled out: one whose switch is always on; one that takes a short buffer where the work area is long enough.
-pub fn enter(
+fn enter_into(
     first: &[u8],
     second: &[u8],
     chains: bool,
@@ -130,4 +131,35 @@ pub fn enter(
     let a = admit(first, second, t, blanks);
     t[2] = pick::either(chains, 1, 0);
     a
+}
+
+// The run of two pieces, where the door admits them; else why not.
+// Ruled out: one whose run has no rows; one that gives a run where a buffer is short.
+pub fn enter(
+    first: &[u8],
+    second: &[u8],
+    chains: bool,
+    blanks: bool,
+    needs: usize,
+    work: usize,
+    buffer: usize,
+) -> Result<Run, Refusal>
+    ensures { Enters needs blanks chains first.now second.now work buffer result }
+{
+    let mut run = Run {
+        bytes: [0u8; run::SIZE],
+        rows: 0,
+    };
+    let counts = enter_into(
+        first,
+        second,
+        chains,
+        blanks,
+        needs,
+        work,
+        buffer,
+        &mut run.bytes,
+    )?;
+    run.rows = counts.rows as usize;
+    Ok(run)
 }

@@ -1,6 +1,6 @@
 // Axiom B: the first reader whose source is overwritten before it, the writer and the byte.
 ghost use Rattle.std.specs.Prelude.{◌≡◌, ◌≤◌, ◌<◌, length};
-ghost use Rattle.run.specs.Layout.{table_in};
+ghost use Rattle.run.specs.Layout.{table_of};
 ghost use Rattle.model.specs.Edge.{over_nth, over_writer, over_reader};
 ghost use Rattle.finite.specs.Several.{TwoOf};
 ghost use Rattle.find_race.specs.Bytes.{Ready, Bounded};
@@ -12,20 +12,20 @@ use run::Run;
 
 // Axiom B: which of y's bytes is the lowest that z overwrites, and PAIR where none is.
 // Ruled out: one that says 0 where none is; one that stops at the lowest byte that y and z share.
-pub fn over_nth(t: &Run, n: usize, src: &[u16], y: usize, z: usize, w: &[u64]) -> usize
-    requires { TwoOf n y z × (n ≤ length src.now) × Ready (table_in t.now n) n w.now }
-    ensures { result ≡ over_nth (table_in t.now n) (source_in src.now) y z }
+pub fn over_nth(t: &Run, src: &[u16], y: usize, z: usize, w: &[u64]) -> usize
+    requires { TwoOf t.now.rows y z × (t.now.rows ≤ length src.now) × Ready (table_of t.now) t.now.rows w.now }
+    ensures { result ≡ over_nth (table_of t.now) (source_in src.now) y z }
 {
     let s = crate::source_at(src, y);
-    let r = run::row(t, y as u16);
-    let q = run::row(t, z as u16);
-    if !(door_rows::kinds::reads(r) & door_rows::kinds::writes(q) & s.is_row(n as u16)) {
+    let r = t.row(y as u16);
+    let q = t.row(z as u16);
+    if !(door_rows::kinds::reads(r) & door_rows::kinds::writes(q) & s.is_row(t.rows as u16)) {
         return work_area::PAIR;
     }
     let from = s.0 as usize;
     for k in 0..work_area::PAIR {
         let b = (r.start as u32) + (k as u32);
-        if find_race::before_byte(t, n, from, z, b, w) & find_race::before_byte(t, n, z, y, b, w) {
+        if find_race::before_byte(t, from, z, b, w) & find_race::before_byte(t, z, y, b, w) {
             return k;
         }
     }
@@ -34,45 +34,45 @@ pub fn over_nth(t: &Run, n: usize, src: &[u16], y: usize, z: usize, w: &[u64]) -
 
 // Axiom B: the first writer that overwrites y's source before y, and n where none does.
 // Ruled out: one that gives a later writer with a lower byte; one that says 0 where none does.
-pub fn over_writer(t: &Run, n: usize, src: &[u16], y: usize, w: &[u64]) -> usize
-    requires { (y < n) × (n ≤ length src.now) × Ready (table_in t.now n) n w.now }
-    ensures { result ≡ over_writer (table_in t.now n) (source_in src.now) y }
+pub fn over_writer(t: &Run, src: &[u16], y: usize, w: &[u64]) -> usize
+    requires { (y < t.now.rows) × (t.now.rows ≤ length src.now) × Ready (table_of t.now) t.now.rows w.now }
+    ensures { result ≡ over_writer (table_of t.now) (source_in src.now) y }
 {
-    for z in 0..n {
-        if over_nth(t, n, src, y, z, w) < work_area::PAIR {
+    for z in 0..t.rows {
+        if over_nth(t, src, y, z, w) < work_area::PAIR {
             return z;
         }
     }
-    n
+    t.rows
 }
 
 // Axiom B: the first reader whose source is overwritten, and n where B holds.
 // Ruled out: one that gives the reader of the first writer; one that passes over the last row.
-pub fn over_reader(t: &Run, n: usize, src: &[u16], w: &[u64]) -> usize
-    requires { (n ≤ length src.now) × Ready (table_in t.now n) n w.now }
-    ensures { result ≡ over_reader (table_in t.now n) (source_in src.now) }
+pub fn over_reader(t: &Run, src: &[u16], w: &[u64]) -> usize
+    requires { (t.now.rows ≤ length src.now) × Ready (table_of t.now) t.now.rows w.now }
+    ensures { result ≡ over_reader (table_of t.now) (source_in src.now) }
 {
-    for y in 0..n {
-        if over_writer(t, n, src, y, w) < n {
+    for y in 0..t.rows {
+        if over_writer(t, src, y, w) < t.rows {
             return y;
         }
     }
-    n
+    t.rows
 }
 
 // Axiom B: the reader, writer and byte that break it, least in that order.
 // Ruled out: one that shows the source where the writer must stand; one that shows the byte as counted from the reader's start.
-pub fn first_overwrite(t: &Run, n: usize, src: &[u16], w: &[u64]) -> Option<Overwritten>
-    requires { (n ≤ length src.now) × Bounded (table_in t.now n) × Ready (table_in t.now n) n w.now }
-    ensures { result ≡ found_overwrite (table_in t.now n) (source_in src.now) }
+pub fn first_overwrite(t: &Run, src: &[u16], w: &[u64]) -> Option<Overwritten>
+    requires { (t.now.rows ≤ length src.now) × Bounded (table_of t.now) × Ready (table_of t.now) t.now.rows w.now }
+    ensures { result ≡ found_overwrite (table_of t.now) (source_in src.now) }
 {
-    let y = over_reader(t, n, src, w);
-    if n <= y {
+    let y = over_reader(t, src, w);
+    if t.rows <= y {
         return None;
     }
-    let z = over_writer(t, n, src, y, w);
-    let k = over_nth(t, n, src, y, z, w);
-    let r = run::row(t, y as u16);
+    let z = over_writer(t, src, y, w);
+    let k = over_nth(t, src, y, z, w);
+    let r = t.row(y as u16);
     Some(Overwritten {
         reader: y as u16,
         writer: z as u16,

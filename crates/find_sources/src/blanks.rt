@@ -2,7 +2,7 @@
 ghost use Rattle.std.specs.Prelude.{◌≡◌, ◌≤◌, ◌<◌, length, get_or};
 ghost use Rattle.finite.specs.Below.{any_below, least};
 ghost use Rattle.model.specs.Limits.{LONGEST};
-ghost use Rattle.run.specs.Layout.{table_in};
+ghost use Rattle.run.specs.Layout.{table_of};
 ghost use Rattle.model.specs.Fill.{not_before_at, candidate, choice, chosen};
 ghost use Rattle.finite.specs.Several.{TwoOf};
 ghost use Rattle.find_race.specs.Bytes.{Ready};
@@ -16,22 +16,22 @@ use run::Run;
 // ---- candidates
 
 // Whether s is not ordered before y at y's k-th byte.
-fn misses_at(t: &Run, n: usize, y: usize, s: usize, k: usize, w: &[u64]) -> bool
-    requires { TwoOf n y s × (k < LONGEST) × Ready (table_in t.now n) n w.now }
-    ensures { result ≡ not_before_at (table_in t.now n) y s k }
+fn misses_at(t: &Run, y: usize, s: usize, k: usize, w: &[u64]) -> bool
+    requires { TwoOf t.now.rows y s × (k < LONGEST) × Ready (table_of t.now) t.now.rows w.now }
+    ensures { result ≡ not_before_at (table_of t.now) y s k }
 {
-    let r = run::row(t, y as u16);
+    let r = t.row(y as u16);
     let b = (r.start as u32) + (k as u32);
-    door_rows::kinds::touches(r, b) & !find_race::before_byte(t, n, s, y, b, w)
+    door_rows::kinds::touches(r, b) & !find_race::before_byte(t, s, y, b, w)
 }
 
 // Whether s is not ordered before y at some byte of y.
-pub fn some_miss(t: &Run, n: usize, y: usize, s: usize, w: &[u64]) -> bool
-    requires { (y < n) × (s < n) × Ready (table_in t.now n) n w.now }
-    ensures { result ≡ any_below LONGEST (not_before_at (table_in t.now n) y s) }
+pub fn some_miss(t: &Run, y: usize, s: usize, w: &[u64]) -> bool
+    requires { (y < t.now.rows) × (s < t.now.rows) × Ready (table_of t.now) t.now.rows w.now }
+    ensures { result ≡ any_below LONGEST (not_before_at (table_of t.now) y s) }
 {
     for k in 0..work_area::PAIR {
-        if misses_at(t, n, y, s, k, w) {
+        if misses_at(t, y, s, k, w) {
             return true;
         }
     }
@@ -39,55 +39,55 @@ pub fn some_miss(t: &Run, n: usize, y: usize, s: usize, w: &[u64]) -> bool
 }
 
 // Whether y may have read s: s covers y, comes before y at each byte, and nothing comes between.
-pub fn candidate_at(t: &Run, n: usize, y: usize, s: usize, w: &[u64]) -> bool
-    requires { (y < n) × (s < n) × Ready (table_in t.now n) n w.now }
-    ensures { result ≡ candidate (table_in t.now n) y s }
+pub fn candidate_at(t: &Run, y: usize, s: usize, w: &[u64]) -> bool
+    requires { (y < t.now.rows) × (s < t.now.rows) × Ready (table_of t.now) t.now.rows w.now }
+    ensures { result ≡ candidate (table_of t.now) y s }
 {
     let from = Source::from(s as u16);
-    if !door_admit::table_faults::writer_fits(run::rows_of(t), n as u16, y as u16, from) {
+    if !door_admit::table_faults::writer_fits(t.row_bytes(), t.rows as u16, y as u16, from) {
         return false;
     }
-    if some_miss(t, n, y, s, w) {
+    if some_miss(t, y, s, w) {
         return false;
     }
-    !writers::some_between(t, n, y, s, w)
+    !writers::some_between(t, y, s, w)
 }
 
 // The first row that y may have read; n where there is none.
-pub fn first_candidate(t: &Run, n: usize, y: usize, w: &[u64]) -> usize
-    requires { (y < n) × Ready (table_in t.now n) n w.now }
-    ensures { (result ≡ least n (candidate (table_in t.now n) y)) × (result ≤ n) }
+pub fn first_candidate(t: &Run, y: usize, w: &[u64]) -> usize
+    requires { (y < t.now.rows) × Ready (table_of t.now) t.now.rows w.now }
+    ensures { (result ≡ least t.now.rows (candidate (table_of t.now) y)) × (result ≤ t.now.rows) }
 {
-    for s in 0..n {
-        if candidate_at(t, n, y, s, w) {
+    for s in 0..t.rows {
+        if candidate_at(t, y, s, w) {
             return s;
         }
     }
-    n
+    t.rows
 }
 
 // ---- choices
 
 // The source that the blank y must have: the initial value where no writer comes before it; n where it can have none.
-pub fn choice_of(t: &Run, n: usize, y: usize, w: &[u64]) -> u16
-    requires { (y < n) × Ready (table_in t.now n) n w.now }
-    ensures { result ≡ choice (table_in t.now n) y }
+pub fn choice_of(t: &Run, y: usize, w: &[u64]) -> u16
+    requires { (y < t.now.rows) × Ready (table_of t.now) t.now.rows w.now }
+    ensures { result ≡ choice (table_of t.now) y }
 {
-    if !writers::is_written(t, n, y, w) {
+    if !writers::is_written(t, y, w) {
         return Source::INITIAL.0;
     }
-    first_candidate(t, n, y, w) as u16
+    first_candidate(t, y, w) as u16
 }
 
 // The source of row i, which has s: its choice where it is a blank, else s.
-fn chosen_at(t: &Run, n: usize, i: usize, s: u16, w: &[u64]) -> u16
-    requires { (i < n) × Ready (table_in t.now n) n w.now }
-    ensures { result ≡ chosen_from (table_in t.now n) i s }
+fn chosen_at(t: &Run, i: usize, s: u16, w: &[u64]) -> u16
+    requires { (i < t.now.rows) × Ready (table_of t.now) t.now.rows w.now }
+    ensures { result ≡ chosen_from (table_of t.now) i s }
 {
-    let r = run::row(t, i as u16);
+    let r = t.row(i as u16);
     let own = Source::from(s);
     if door_rows::kinds::is_plain_read(r) & own.is_blank() {
-        return choice_of(t, n, i, w);
+        return choice_of(t, i, w);
     }
     s
 }
@@ -95,14 +95,14 @@ fn chosen_at(t: &Run, n: usize, i: usize, s: u16, w: &[u64]) -> u16
 // Each blank's choice, and every other row's own source.
 // Ruled out: one that chooses for a plain read that names its source; one that takes for a blank a writer that was overwritten
 // before it at any byte.
-pub fn choose(t: &Run, n: usize, src: &[u16], w: &[u64]) -> [u16; 128]
-    requires { (n ≤ length src.now) × Ready (table_in t.now n) n w.now }
-    ensures { Listed (chosen (table_in t.now n) (λ i. get_or src.now i 0)) n result }
+pub fn choose(t: &Run, src: &[u16], w: &[u64]) -> [u16; 128]
+    requires { (t.now.rows ≤ length src.now) × Ready (table_of t.now) t.now.rows w.now }
+    ensures { Listed (chosen (table_of t.now) (λ i. get_or src.now i 0)) t.now.rows result }
 {
     let mut list = [0u16; 128];
-    for i in 0..n {
+    for i in 0..t.rows {
         let s = src[i];
-        let c = chosen_at(t, n, i, s, w);
+        let c = chosen_at(t, i, s, w);
         list[i] = c;
     }
     list

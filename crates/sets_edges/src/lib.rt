@@ -4,7 +4,7 @@
 ghost use Rattle.std.specs.Prelude.{◌≤◌, ◌<◌, length};
 ghost use Rattle.model.specs.Limits.{ROWS, WORK};
 ghost use Rattle.model.specs.Edge.{edge};
-ghost use Rattle.run.specs.Layout.{table_in};
+ghost use Rattle.run.specs.Layout.{table_of};
 ghost use Rattle.work_area.specs.Regions.{EDGE, EDGE_END};
 ghost use Rattle.find_axioms.specs.Sources.{source_in};
 ghost use Rattle.sets_grids.specs.Grid.{MadeGrid};
@@ -43,12 +43,12 @@ fn put_reads(n: usize, s: &[u64], source: usize, y: usize, w: &mut [u64])
 }
 
 // EDGE, with the sources in `src`.
-pub fn fill_edges(t: &Run, n: usize, src: &[u16], s: &[u64], w: &mut [u64])
-    requires { Sources (table_in t.now n) n src.now × ToJudge (table_in t.now n) n s.now w.old }
-    ensures { MadeGrid EDGE EDGE_END EDGE n (edge (table_in t.now n) (source_in src.now)) w.old w.new }
+pub fn fill_edges(t: &Run, src: &[u16], s: &[u64], w: &mut [u64])
+    requires { Sources (table_of t.now) t.now.rows src.now × ToJudge (table_of t.now) t.now.rows s.now w.old }
+    ensures { MadeGrid EDGE EDGE_END EDGE t.now.rows (edge (table_of t.now) (source_in src.now)) w.old w.new }
 {
-    put_orders(n, w);
+    put_orders(t.rows, w);
     for y in sets_of_table::rows(s, sets_of_table::READS) {
-        put_reads(n, s, src[y] as usize, y, w);
+        put_reads(t.rows, s, src[y] as usize, y, w);
     }
 }

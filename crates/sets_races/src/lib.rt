@@ -7,7 +7,7 @@ ghost use Rattle.model.specs.Table.{row_of};
 ghost use Rattle.model.specs.Race.{conflict, unordered_nth};
 ghost use Rattle.model.specs.Report.{conflict_ordered};
 ghost use Rattle.bits.specs.Bit.{bit_of};
-ghost use Rattle.run.specs.Layout.{rows_in, table_in};
+ghost use Rattle.run.specs.Layout.{rows_in, table_of};
 ghost use Rattle.sets_of_rows.specs.Rows.{Rows};
 ghost use Rattle.find_race.specs.First.{found_race};
 ghost use Rattle.finite.specs.Several.{TwoOf};
@@ -26,9 +26,9 @@ use sets_of_table::fields;
 // ---- races
 
 // The rows after i that conflict with it: they share bytes, and one of the two writes.
-fn conflicting(t: &Run, n: usize, s: &[u64], i: usize, w: &[u64]) -> Set
-    requires { RowThat access (row_of (rows_in t.now)) n i × ToJudge (table_in t.now n) n s.now w.now }
-    ensures { Rows n (above (conflict (table_in t.now n)) i) result }
+fn conflicting(t: &Run, s: &[u64], i: usize, w: &[u64]) -> Set
+    requires { RowThat access (row_of (rows_in t.now.bytes)) t.now.rows i × ToJudge (table_of t.now) t.now.rows s.now w.now }
+    ensures { Rows t.now.rows (above (conflict (table_of t.now)) i) result }
 {
     let writes = sets_of_table::rows(s, sets_of_table::WRITES);
     let over = kept::get(w, work_area::OVERLAP, i) & Set::above(i);
@@ -36,22 +36,22 @@ fn conflicting(t: &Run, n: usize, s: &[u64], i: usize, w: &[u64]) -> Set
 }
 
 // The shared bytes of i and j at which neither is ordered before the other.
-fn unordered(t: &Run, n: usize, i: usize, j: usize, w: &[u64]) -> u64
-    requires { TwoOf n i j × (conflict (table_in t.now n) i j ≡ true) × Judged (table_in t.now n) n w.now }
-    ensures { Mask (unordered_nth (table_in t.now n) i j) result }
+fn unordered(t: &Run, i: usize, j: usize, w: &[u64]) -> u64
+    requires { TwoOf t.now.rows i j × (conflict (table_of t.now) i j ≡ true) × Judged (table_of t.now) t.now.rows w.now }
+    ensures { Mask (unordered_nth (table_of t.now) i j) result }
 {
-    let all = sets_bytes::shared(t, n, i, j);
+    let all = sets_bytes::shared(t, i, j);
     let ordered = work_area::pairs::mask(w, i, j)
-        | sets_bytes::moved(t, n, work_area::pairs::mask(w, j, i), j, i);
+        | sets_bytes::moved(t, work_area::pairs::mask(w, j, i), j, i);
     all ^ (all & ordered)
 }
 
 // The rows after i that conflict with it and aren't mutually-ordered with it.
-fn open_after(t: &Run, n: usize, s: &[u64], i: usize, w: &[u64]) -> Set
-    requires { RowThat access (row_of (rows_in t.now)) n i × ToJudge (table_in t.now n) n s.now w.now }
-    ensures { Rows n (open_after (table_in t.now n) i) result }
+fn open_after(t: &Run, s: &[u64], i: usize, w: &[u64]) -> Set
+    requires { RowThat access (row_of (rows_in t.now.bytes)) t.now.rows i × ToJudge (table_of t.now) t.now.rows s.now w.now }
+    ensures { Rows t.now.rows (open_after (table_of t.now) i) result }
 {
-    conflicting(t, n, s, i, w) - kept::get(w, work_area::MUTUAL, i)
+    conflicting(t, s, i, w) - kept::get(w, work_area::MUTUAL, i)
 }
 
 // Whether bit k of m is set.
@@ -64,14 +64,14 @@ fn is_set(m: u64, k: u32) -> bool
 
 // The first pair in row order that races, then its lowest shared byte with no order: the lower row, the higher, the byte.
 // Ruled out: one that shows the rows exchanged; one that shows the lowest shared byte, ordered or not.
-pub fn first_race(t: &Run, n: usize, s: &[u64], w: &[u64]) -> Option<Race>
-    requires { ToJudge (table_in t.now n) n s.now w.now }
-    ensures { result ≡ found_race (table_in t.now n) }
+pub fn first_race(t: &Run, s: &[u64], w: &[u64]) -> Option<Race>
+    requires { ToJudge (table_of t.now) t.now.rows s.now w.now }
+    ensures { result ≡ found_race (table_of t.now) }
 {
     let mut answer = None;
     'pairs: for x in sets_of_table::rows(s, sets_of_table::ACCESS) {
-        for y in open_after(t, n, s, x, w) {
-            let bytes = unordered(t, n, x, y, w);
+        for y in open_after(t, s, x, w) {
+            let bytes = unordered(t, x, y, w);
             if bytes == 0 {
                 continue;
             }
@@ -103,13 +103,13 @@ pub struct Counts {
 }
 
 // How many of `others` are ordered with i at every shared byte.
-fn count_ordered(t: &Run, n: usize, i: usize, others: Set, w: &[u64]) -> u16
-    requires { (i < n) × Rows n (open_after (table_in t.now n) i) others × Judged (table_in t.now n) n w.now }
-    ensures { result ≡ row_count n (conflict_ordered (table_in t.now n)) i }
+fn count_ordered(t: &Run, i: usize, others: Set, w: &[u64]) -> u16
+    requires { (i < t.now.rows) × Rows t.now.rows (open_after (table_of t.now) i) others × Judged (table_of t.now) t.now.rows w.now }
+    ensures { result ≡ row_count t.now.rows (conflict_ordered (table_of t.now)) i }
 {
     let mut count = 0;
     for j in others {
-        if unordered(t, n, i, j, w) == 0 {
+        if unordered(t, i, j, w) == 0 {
             count += 1;
         }
     }
@@ -117,9 +117,9 @@ fn count_ordered(t: &Run, n: usize, i: usize, others: Set, w: &[u64]) -> u16
 }
 
 // The pairs that conflict; of these the mutually-ordered ones, and of the others those that have order at every shared byte.
-pub fn count_pairs(t: &Run, n: usize, s: &[u64], w: &[u64]) -> Counts
-    requires { ToJudge (table_in t.now n) n s.now w.now }
-    ensures { Counted (table_in t.now n) result }
+pub fn count_pairs(t: &Run, s: &[u64], w: &[u64]) -> Counts
+    requires { ToJudge (table_of t.now) t.now.rows s.now w.now }
+    ensures { Counted (table_of t.now) result }
 {
     let mut c = Counts {
         conflicting: 0,
@@ -127,11 +127,11 @@ pub fn count_pairs(t: &Run, n: usize, s: &[u64], w: &[u64]) -> Counts
         ordered: 0,
     };
     for i in sets_of_table::rows(s, sets_of_table::ACCESS) {
-        let others = conflicting(t, n, s, i, w);
+        let others = conflicting(t, s, i, w);
         let mutual = kept::get(w, work_area::MUTUAL, i);
         c.conflicting += others.count() as u16;
         c.mutuals += (others & mutual).count() as u16;
-        c.ordered += count_ordered(t, n, i, others - mutual, w);
+        c.ordered += count_ordered(t, i, others - mutual, w);
     }
     c
 }

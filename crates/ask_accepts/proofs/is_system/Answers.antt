@@ -15,5 +15,5 @@ returns-then-not-case c = sym (and_false_left _ _ (not_out _ (ap not (ne_eqb _ _
 pub returns : goal.returns
 unfolding ◌and◌
 returns c =
-    system_on (rows_in c.args.t.now) (places_in c.args.t.now) _ c.args.n c.args.case _ _ _ c.depends.ensures
+    system_on (rows_in c.args.t.now.bytes) (places_in c.args.t.now.bytes) _ c.args.t.now.rows c.args.case _ _ _ c.depends.ensures
     (eq-eqb _ _ c.if-not-case.false)

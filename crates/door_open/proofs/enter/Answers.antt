@@ -1,27 +1,12 @@
-use mathlib.Core.Path.{refl, sym, ◌∙◌}
-use Rattle.finite.specs.Logic.{◌and◌}
-use Rattle.model.specs.Refusal.{admission_answer}
-use Rattle.door_pieces.specs.PiecesLaws.{early_refused}
-use Rattle.door_pieces.specs.Entry.{door_short, door_wide}
-use Rattle.door_open.specs.Laid.{laid_open}
-use Rattle.door_open.specs.Opened.{opens_refused, opens_laid}
-use mathlib.Core.Path.{ap}
-use mathlib.Core.Bool.{not}
+use Rattle.std.proofs.Common.{sym, ◌∙◌}
+use Rattle.std.proofs.lemmas.Result.{err_from_is_err_and}
 use Rattle.door_open.proofs.enter.Goals as goal
 
-pub returns-then-not-work-needs : goal.returns-then-not-work-needs
-unfolding ◌and◌ admission_answer
-returns-then-not-work-needs c =
-    (ap admission_answer (door_short _ _ _ _ _ _ (ap not c.if-not-work-needs.true)), opens_refused _ _ _ _ _ _ _ _ _ refl)
-
-pub returns-then-fault-ne0 : goal.returns-then-fault-ne0
-unfolding ◌and◌ admission_answer
-returns-then-fault-ne0 c =
-    let refused = early_refused _ _ _ _ c.early_fault-fault.ensures c.if-fault-ne0.true in
-    (ap admission_answer (sym refused ∙ door_wide _ _ _ _ _ _ (ap not c.if-not-work-needs.false)), opens_refused _ _ _ _ _ _ _ _ _ refl)
+pub returns-in_err-counts : goal.returns-in_err-counts
+returns-in_err-counts c =
+    let p = err_from_is_err_and c.from_residual.result c.from_residual.ensures.1 in
+    rw (p.1, p.2) (sym c.enter_into.ensures.0 ∙ c.in_err-counts.was)
 
 pub returns : goal.returns
-unfolding ◌and◌
 returns c =
-    let e = c.admit-a.ensures ∙ ap admission_answer (door_wide _ _ _ _ _ _ (ap not c.if-not-work-needs.false)) in
-    (e, opens_laid _ _ _ _ _ _ _ _ _ e (laid_open c.args.chains _ _ _ _ _ _ c.lay.ensures c.either.ensures refl))
+    (c.in_ok-counts.counts.agents, sym c.enter_into.ensures.0 ∙ c.in_ok-counts.was, c.enter_into.ensures.1 _ c.in_ok-counts.was)

@@ -1,7 +1,7 @@
 use Rattle.find_race.specs.First.{Searched, search_ran, search_hit, none_starts, none_more, pair_off, pair_none, pair_on, race_byte_lem}
 use Rattle.find_race.specs.First.{race_ends, row_starts, row_off, race_found, race_none}
 use Rattle.model.specs.Table.{decode}
-use Rattle.run.specs.Layout.{table_in}
+use Rattle.run.specs.Layout.{table_of}
 use Prim.Native.Nat.{◌+◌}
 use Rattle.finite.specs.Below.{least_none, least_more}
 use native.Mathlib.Omega.{arith}
@@ -45,7 +45,7 @@ pub loop-y-preserved : goal.loop-y-preserved
 unfolding decode
 loop-y-preserved c =
     let none = c.loop-b.invariant in
-    let found : Searched (table_in c.args.t.now c.args.n) c.pairs.x c.loop-y.y (c.row-r.result.start + c.row-r.result.size) c.if-end-b.hit =
+    let found : Searched (table_of c.args.t.now) c.pairs.x c.loop-y.y (c.row-r.result.start + c.row-r.result.size) c.if-end-b.hit =
     elim c.if-end-b.branch [ then-end-b v ↦ search_ran _ _ _ _ _ _ none v.if-end-b.true v.hit-is | else-end-b+then-unordered_at v ↦ search_hit _ _ _ _ _ _ none (sym v.unordered_at.ensures ∙ v.if-unordered_at.true) v.hit-is ]
     in
     let inv = c.loop-y.invariant in
@@ -58,21 +58,21 @@ loop-y-preserved c =
 pub pairs-preserved : goal.pairs-preserved
 unfolding decode
 pairs-preserved c =
-    let e : c.loop-y.y ≡ c.args.n = omega arith in
+    let e : c.loop-y.y ≡ c.args.t.now.rows = omega arith in
     let off = row_off _ _ _ refl (rw e at c.loop-y.invariant.3) in
     (search rules, c.loop-y.invariant.2, least_more _ _ c.pairs.invariant.2 off)
 
 pub returns-after-pairs : goal.returns-after-pairs
 unfolding decode
 returns-after-pairs c =
-    let e : c.pairs.x ≡ c.args.n = omega arith in
+    let e : c.pairs.x ≡ c.args.t.now.rows = omega arith in
     c.pairs.invariant.1 ∙ race_none _ _ refl (rw e at c.pairs.invariant.2)
 
 pub returns-then-hit-end : goal.returns-then-hit-end
 unfolding decode
 returns-then-hit-end c =
     let none = c.loop-b.invariant in
-    let found : Searched (table_in c.args.t.now c.args.n) c.pairs.x c.loop-y.y (c.row-r.result.start + c.row-r.result.size) c.if-end-b.hit =
+    let found : Searched (table_of c.args.t.now) c.pairs.x c.loop-y.y (c.row-r.result.start + c.row-r.result.size) c.if-end-b.hit =
     elim c.if-end-b.branch [ then-end-b v ↦ search_ran _ _ _ _ _ _ none v.if-end-b.true v.hit-is | else-end-b+then-unordered_at v ↦ search_hit _ _ _ _ _ _ none (sym v.unordered_at.ensures ∙ v.if-unordered_at.true) v.hit-is ]
     in
     let inv = c.loop-y.invariant in

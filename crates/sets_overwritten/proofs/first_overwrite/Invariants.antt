@@ -2,7 +2,7 @@ use mathlib.Core.Path.{◌≡◌}
 use Prim.Native.Nat.{◌-◌}
 use Rattle.finite.specs.Below.{least}
 use Rattle.model.specs.Limits.{ROWS}
-use Rattle.run.specs.Layout.{table_in}
+use Rattle.run.specs.Layout.{table_of}
 use Rattle.find_axioms.specs.Sources.{source_in}
 use Rattle.sets_of_rows.specs.First.{next}
 use Rattle.sets_of_rows.specs.Walk.{Walk}
@@ -10,4 +10,4 @@ use Rattle.sets_overwritten.specs.Over.{reader_in}
 use Rattle.sets_overwritten.proofs.first_overwrite.Given as goal
 
 abbrev pub invariant-loop-y : goal.invariant-loop-y
-invariant-loop-y l = Walk l.initial.y-iterator.left l.y-iterator.left × (least (next l.y-iterator.left) (reader_in (table_in l.t l.n) l.n (source_in l.src)) ≡ next l.y-iterator.left)
+invariant-loop-y l = Walk l.initial.y-iterator.left l.y-iterator.left × (least (next l.y-iterator.left) (reader_in (table_of l.t) l.t.rows (source_in l.src)) ≡ next l.y-iterator.left)

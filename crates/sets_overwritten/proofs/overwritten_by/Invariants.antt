@@ -2,11 +2,11 @@ use mathlib.Core.Path.{◌≡◌}
 use Prim.Native.Nat.{◌-◌}
 use Rattle.finite.specs.Below.{least}
 use Rattle.model.specs.Limits.{ROWS}
-use Rattle.run.specs.Layout.{table_in}
+use Rattle.run.specs.Layout.{table_of}
 use Rattle.sets_of_rows.specs.First.{next}
 use Rattle.sets_of_rows.specs.Walk.{Walk}
 use Rattle.sets_overwritten.specs.Over.{writer_in}
 use Rattle.sets_overwritten.proofs.overwritten_by.Given as goal
 
 abbrev pub invariant-loop-z : goal.invariant-loop-z
-invariant-loop-z l = Walk l.initial.z-iterator.left l.z-iterator.left × (least (next l.z-iterator.left) (writer_in (table_in l.t l.n) l.n l.source l.y) ≡ next l.z-iterator.left)
+invariant-loop-z l = Walk l.initial.z-iterator.left l.z-iterator.left × (least (next l.z-iterator.left) (writer_in (table_of l.t) l.t.rows l.source l.y) ≡ next l.z-iterator.left)

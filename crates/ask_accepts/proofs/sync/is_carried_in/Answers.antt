@@ -26,5 +26,5 @@ loop-y-preserved c = (
 
 pub returns : goal.returns
 returns c =
-    let e : c.loop-y.y ≡ c.args.n = omega arith in
+    let e : c.loop-y.y ≡ c.args.t.now.rows = omega arith in
     sym (rw e at c.loop-y.invariant.1)

@@ -1,4 +1,4 @@
-use Rattle.run.specs.Layout.{table_in}
+use Rattle.run.specs.Layout.{table_of}
 use mathlib.Core.Path.{◌≡◌}
 use mathlib.Core.Bool.{false}
 use Prim.Native.Nat.{◌≤◌}
@@ -7,4 +7,4 @@ use Rattle.model.specs.Synchronizes.{carries_in}
 use Rattle.ask_accepts.proofs.sync.is_carried_in.Given as goal
 
 abbrev pub invariant-loop-y : goal.invariant-loop-y
-invariant-loop-y l = (l.y ≤ l.n) × (any_below l.y (carries_in (table_in l.t l.n) l.a l.b) ≡ false)
+invariant-loop-y l = (l.y ≤ l.t.rows) × (any_below l.y (carries_in (table_of l.t) l.a l.b) ≡ false)

@@ -1,4 +1,4 @@
-use Rattle.run.specs.Layout.{table_in}
+use Rattle.run.specs.Layout.{table_of}
 use mathlib.Core.Path.{◌≡◌}
 use mathlib.Core.Bool.{false}
 use Prim.Native.Nat.{◌≤◌}
@@ -7,4 +7,4 @@ use Rattle.model.specs.Synchronizes.{carries_out}
 use Rattle.ask_accepts.proofs.sync.is_carried_out.Given as goal
 
 abbrev pub invariant-loop-x : goal.invariant-loop-x
-invariant-loop-x l = (l.x ≤ l.n) × (any_below l.x (carries_out (table_in l.t l.n) l.a l.b) ≡ false)
+invariant-loop-x l = (l.x ≤ l.t.rows) × (any_below l.x (carries_out (table_of l.t) l.a l.b) ≡ false)

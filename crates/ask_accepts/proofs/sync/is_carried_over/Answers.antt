@@ -27,5 +27,5 @@ loop-x-preserved c = (
 
 pub returns : goal.returns
 returns c =
-    let e : c.loop-x.x ≡ c.args.n = omega arith in
+    let e : c.loop-x.x ≡ c.args.t.now.rows = omega arith in
     sym (rw e at c.loop-x.invariant.1)

@@ -27,5 +27,5 @@ loop-z-preserved c =
 
 pub returns : goal.returns
 returns c =
-    let e : c.loop-z.z ≡ c.args.n = omega arith in
+    let e : c.loop-z.z ≡ c.args.t.now.rows = omega arith in
     sym (rw e at c.loop-z.invariant.1)

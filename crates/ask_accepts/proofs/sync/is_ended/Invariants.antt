@@ -1,4 +1,4 @@
-use Rattle.run.specs.Layout.{table_in}
+use Rattle.run.specs.Layout.{table_of}
 use mathlib.Core.Path.{◌≡◌}
 use mathlib.Core.Bool.{false}
 use Prim.Native.Nat.{◌≤◌}
@@ -7,4 +7,4 @@ use Rattle.model.specs.Synchronizes.{ends}
 use Rattle.ask_accepts.proofs.sync.is_ended.Given as goal
 
 abbrev pub invariant-loop-z : goal.invariant-loop-z
-invariant-loop-z l = (l.z ≤ l.n) × (any_below l.z (ends (table_in l.t l.n) l.a l.x) ≡ false)
+invariant-loop-z l = (l.z ≤ l.t.rows) × (any_below l.z (ends (table_of l.t) l.a l.x) ≡ false)

@@ -11,14 +11,14 @@ show_cycle-size-requires c =
     let asked = show_asked _ _ _ _ _ _ _ refl
     c.fill_edges.ensures
     c.cycle_start-x.ensures.0
-    c.cycle_start-x.ensures.1 pre.2.ready c.if-x-n.true in
+    c.cycle_start-x.ensures.1 pre.2.ready c.if-x-t.true in
     (pre.0, pre.1, asked)
 
 pub overflow_cast-result : goal.overflow_cast-result
 unfolding decode
 overflow_cast-result c =
     let few = rows_few _ _ _ _ refl (start_found _ _ _ _ _ _ refl
-    c.fill_edges.ensures c.cycle_start-x.ensures.0) c.if-x-n.true in
+    c.fill_edges.ensures c.cycle_start-x.ensures.0) c.if-x-t.true in
     omega (
       arith,
       few,
@@ -26,14 +26,14 @@ overflow_cast-result c =
       c.requires.2.ready.0,
     )
 
-pub returns-then-x-n : goal.returns-then-x-n
+pub returns-then-x-t : goal.returns-then-x-t
 unfolding decode
-returns-then-x-n c =
+returns-then-x-t c =
     let show = c.show_cycle-size.ensures in
     judge_cyclic _ _ _ _ _ _ _ refl c.fill_edges.ensures
     c.cycle_start-x.ensures.0
     c.cycle_start-x.ensures.1 _ _ _ _
-    c.if-x-n.true show.0 show.1 show.2
+    c.if-x-t.true show.0 show.1 show.2
 
 pub settle-requires : goal.settle-requires
 settle-requires c =
@@ -48,4 +48,4 @@ unfolding decode
 returns c =
     let start = c.cycle_start-x.ensures in
     judge_on _ _ _ _ _ _ _ refl c.fill_edges.ensures start.0
-    start.1 _ _ c.if-x-n.false c.settle.ensures
+    start.1 _ _ c.if-x-t.false c.settle.ensures

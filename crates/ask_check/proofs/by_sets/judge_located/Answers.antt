@@ -13,23 +13,23 @@ show_cycle-size-requires c =
     let pre = c.requires in
     let few = given_few pre.2.given in
     let start = c.cycle_start-x.ensures in
-    let asked = show_asked _ _ _ _ _ _ _ refl (grid_made few c.fill_edges.ensures) start.0 start.1 (ready_by_sets pre.2) c.if-x-n.true in
+    let asked = show_asked _ _ _ _ _ _ _ refl (grid_made few c.fill_edges.ensures) start.0 start.1 (ready_by_sets pre.2) c.if-x-t.true in
     (pre.0, pre.1.each, asked)
 
 pub overflow_cast-result : goal.overflow_cast-result
 unfolding decode
 overflow_cast-result c =
     let small = given_few c.requires.2.given in
-    let few = rows_few _ _ _ _ refl (start_found _ _ _ _ _ _ refl (grid_made small c.fill_edges.ensures) c.cycle_start-x.ensures.0) c.if-x-n.true in
+    let few = rows_few _ _ _ _ refl (start_found _ _ _ _ _ _ refl (grid_made small c.fill_edges.ensures) c.cycle_start-x.ensures.0) c.if-x-t.true in
     omega (arith, few, c.show_cycle-size.ensures.0, small)
 
-pub returns-then-x-n : goal.returns-then-x-n
+pub returns-then-x-t : goal.returns-then-x-t
 unfolding decode
-returns-then-x-n c =
+returns-then-x-t c =
     let show = c.show_cycle-size.ensures in
     let small = given_few c.requires.2.given in
     judge_cyclic _ _ _ _ _ _ _ refl (grid_made small c.fill_edges.ensures) c.cycle_start-x.ensures.0 c.cycle_start-x.ensures.1 _ _ _ _
-    c.if-x-n.true show.0 show.1 show.2
+    c.if-x-t.true show.0 show.1 show.2
 
 pub settle-requires : goal.settle-requires
 settle-requires c =
@@ -43,4 +43,4 @@ unfolding decode
 returns c =
     let start = c.cycle_start-x.ensures in
     let small = given_few c.requires.2.given in
-    judge_on _ _ _ _ _ _ _ refl (grid_made small c.fill_edges.ensures) start.0 start.1 _ _ c.if-x-n.false c.settle.ensures
+    judge_on _ _ _ _ _ _ _ refl (grid_made small c.fill_edges.ensures) start.0 start.1 _ _ c.if-x-t.false c.settle.ensures

@@ -19,7 +19,7 @@ pub loop-i-preserved : goal.loop-i-preserved
 loop-i-preserved c =
     let pre = c.requires in
     let inv = c.loop-i.invariant in
-    let e = step_is _ _ c.args.n _ _ _ _ _
+    let e = step_is _ _ c.args.t.now.rows _ _ _ _ _
     inv.2 pre.0.few (omega arith) _ _ _ _ _ c.wide-a.ensures c.next_of-b.ensures
     c.edge_number-e.ensures in
     let more = numbered_more _ _ _ _ _ _ (omega arith) refl e inv.2 in

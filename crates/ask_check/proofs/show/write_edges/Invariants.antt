@@ -1,4 +1,4 @@
-use Rattle.run.specs.Layout.{table_in}
+use Rattle.run.specs.Layout.{table_of}
 use mathlib.Core.Path.{◌≡◌}
 use Prim.Native.Nat.{◌≤◌}
 use lib.ListN.{length}
@@ -7,4 +7,4 @@ use Rattle.ask_check.specs.Shown.{Numbered, step_number}
 use Rattle.ask_check.proofs.show.write_edges.Given as goal
 
 abbrev pub invariant-loop-i : goal.invariant-loop-i
-invariant-loop-i l = (l.i ≤ l.size) × (length l.c ≡ length l.initial.c) × Numbered (step_number (table_in l.t l.n) (source_in l.src) l.x l.size l.initial.c) l.i l.initial.c l.c
+invariant-loop-i l = (l.i ≤ l.size) × (length l.c ≡ length l.initial.c) × Numbered (step_number (table_of l.t) (source_in l.src) l.x l.size l.initial.c) l.i l.initial.c l.c

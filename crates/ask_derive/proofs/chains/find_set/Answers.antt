@@ -13,13 +13,13 @@ use Rattle.ask_derive.proofs.chains.find_set.Goals as goal
 pub loop-c-init : goal.loop-c-init
 loop-c-init c = (search rules, refl, least_none _, c.requires.2, within_refl _ _ _)
 
-pub returns-then-j-n : goal.returns-then-j-n
+pub returns-then-j-t : goal.returns-then-j-t
 unfolding decode
-returns-then-j-n c =
+returns-then-j-t c =
     let inv = c.loop-c.invariant in
     let made = c.make_layers.ensures in (
       set_found refl made.layered _ _ c.requires.0.first c.layer_of-j.ensures.0 inv.2
-          c.loop-c-test.true c.if-j-n.true,
+          c.loop-c-test.true c.if-j-t.true,
       within_trans inv.4 made.frame,
       λ h. made.layered,
     )
@@ -31,7 +31,7 @@ loop-c-preserved c =
     let made = c.make_layers.ensures in (
       search rules,
       made.frame.len ∙ inv.1,
-      set_missed refl made.layered _ _ c.requires.0.first c.layer_of-j.ensures.0 inv.2 c.if-j-n.false,
+      set_missed refl made.layered _ _ c.requires.0.first c.layer_of-j.ensures.0 inv.2 c.if-j-t.false,
       synced_kept (omega arith) made.frame inv.3,
       within_trans inv.4 made.frame,
     )

@@ -5,11 +5,11 @@ use Rattle.ask_check.specs.Answers.{known_kept, edges_held}
 use Rattle.ask_fill.specs.Parts.{cyclic_told, acyclic_told}
 use Rattle.ask_fill.proofs.by_flags.is_consistent.Goals as goal
 
-pub returns-then-x-n : goal.returns-then-x-n
+pub returns-then-x-t : goal.returns-then-x-t
 unfolding decode
-returns-then-x-n c =
+returns-then-x-t c =
     let start = c.cycle_start-x.ensures in
-    cyclic_told _ _ _ _ _ _ _ refl c.fill_edges.ensures start.0 start.1 c.if-x-n.true
+    cyclic_told _ _ _ _ _ _ _ refl c.fill_edges.ensures start.0 start.1 c.if-x-t.true
 
 pub over_reader-requires : goal.over_reader-requires
 over_reader-requires c =
@@ -25,4 +25,4 @@ unfolding decode
 returns c =
     let start = c.cycle_start-x.ensures in
     acyclic_told _ _ _ _ _ _ _ refl c.fill_edges.ensures
-    start.0 start.1 c.if-x-n.false _ c.over_reader.ensures
+    start.0 start.1 c.if-x-t.false _ c.over_reader.ensures

@@ -7,11 +7,11 @@ use Rattle.ask_check.specs.Engine.{judge_kept}
 use Rattle.ask_fill.specs.Parts.{cyclic_told, acyclic_found}
 use Rattle.ask_fill.proofs.by_sets.is_consistent.Goals as goal
 
-pub returns-then-x-n : goal.returns-then-x-n
+pub returns-then-x-t : goal.returns-then-x-t
 unfolding decode
-returns-then-x-n c =
+returns-then-x-t c =
     let start = c.cycle_start-x.ensures in
-    cyclic_told _ _ _ _ _ _ _ refl (grid_made (given_few c.requires.1.given) c.fill_edges.ensures) start.0 start.1 c.if-x-n.true
+    cyclic_told _ _ _ _ _ _ _ refl (grid_made (given_few c.requires.1.given) c.fill_edges.ensures) start.0 start.1 c.if-x-t.true
 
 pub first_overwrite-requires : goal.first_overwrite-requires
 first_overwrite-requires c =
@@ -24,5 +24,5 @@ pub returns : goal.returns
 unfolding decode
 returns c =
     let start = c.cycle_start-x.ensures in
-    acyclic_found _ _ _ _ _ _ _ refl (grid_made (given_few c.requires.1.given) c.fill_edges.ensures) start.0 start.1 c.if-x-n.false _ c.first_overwrite.ensures
+    acyclic_found _ _ _ _ _ _ _ refl (grid_made (given_few c.requires.1.given) c.fill_edges.ensures) start.0 start.1 c.if-x-t.false _ c.first_overwrite.ensures
     _ c.is_none.ensures

@@ -29,11 +29,11 @@ pub loop-x-preserved : goal.loop-x-preserved
 loop-x-preserved c =
     let inv = c.loop-y.invariant in
     let out = c.loop-x.invariant in
-    let e : c.loop-y.y ≡ c.args.n = omega arith in
+    let e : c.loop-y.y ≡ c.args.t.now.rows = omega arith in
     (search rules, inv.1 ∙ out.1, inv.2, grid_fill_more _ _ _ _ _ _ _ _ out.3 (rw e at inv.3))
 
 pub returns : goal.returns
 returns c =
-    let e : c.loop-x.x ≡ c.args.n = omega arith in
+    let e : c.loop-x.x ≡ c.args.t.now.rows = omega arith in
     made_filled EDGE EDGE_END GRID _ _ _ _ _ (omega arith) (omega arith) (omega arith)
     c.clear.ensures (rw e at c.loop-x.invariant.3)

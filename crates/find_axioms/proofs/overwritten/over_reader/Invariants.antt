@@ -1,4 +1,4 @@
-use Rattle.run.specs.Layout.{table_in}
+use Rattle.run.specs.Layout.{table_of}
 use Rattle.find_axioms.specs.Sources.{source_in}
 use Rattle.model.specs.Edge.{is_overwritten}
 use Rattle.finite.specs.Below.{least}
@@ -7,4 +7,4 @@ use mathlib.Core.Path.{◌≡◌}
 use Rattle.find_axioms.proofs.overwritten.over_reader.Given as goal
 
 abbrev pub invariant-loop-y : goal.invariant-loop-y
-invariant-loop-y l = (l.y ≤ l.n) × (least l.y (is_overwritten (table_in l.t l.n) (source_in l.src)) ≡ l.y)
+invariant-loop-y l = (l.y ≤ l.t.rows) × (least l.y (is_overwritten (table_of l.t) (source_in l.src)) ≡ l.y)

@@ -21,4 +21,4 @@ loop-z-preserved c = (search rules, least_more _ _ c.loop-z.invariant.1 ((overwr
 
 pub returns : goal.returns
 unfolding over_writer decode
-returns c = let e : c.loop-z.z ≡ c.args.n = omega arith in sym (rw e at c.loop-z.invariant.1)
+returns c = let e : c.loop-z.z ≡ c.args.t.now.rows = omega arith in sym (rw e at c.loop-z.invariant.1)

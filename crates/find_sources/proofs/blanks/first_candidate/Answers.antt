@@ -19,5 +19,5 @@ loop-s-preserved c = (search rules, least_more _ _ c.loop-s.invariant.1 (sym c.c
 
 pub returns : goal.returns
 returns c =
-    let e : c.loop-s.s ≡ c.args.n = omega arith in
+    let e : c.loop-s.s ≡ c.args.t.now.rows = omega arith in
     (sym (rw e at c.loop-s.invariant.1), omega arith)

@@ -1,4 +1,4 @@
-use Rattle.run.specs.Layout.{table_in}
+use Rattle.run.specs.Layout.{table_of}
 use mathlib.Core.Path.{◌≡◌}
 use Prim.Native.Nat.{◌≤◌}
 use Rattle.finite.specs.Below.{least}
@@ -6,4 +6,4 @@ use Rattle.model.specs.Fill.{candidate}
 use Rattle.find_sources.proofs.blanks.first_candidate.Given as goal
 
 abbrev pub invariant-loop-s : goal.invariant-loop-s
-invariant-loop-s l = (l.s ≤ l.n) × (least l.s (candidate (table_in l.t l.n) l.y) ≡ l.s)
+invariant-loop-s l = (l.s ≤ l.t.rows) × (least l.s (candidate (table_of l.t) l.y) ≡ l.s)

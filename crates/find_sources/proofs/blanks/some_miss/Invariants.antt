@@ -1,4 +1,4 @@
-use Rattle.run.specs.Layout.{table_in}
+use Rattle.run.specs.Layout.{table_of}
 use mathlib.Core.Path.{◌≡◌}
 use Prim.Native.Nat.{◌≤◌}
 use mathlib.Core.Bool.{false}
@@ -8,4 +8,4 @@ use Rattle.model.specs.Limits.{LONGEST}
 use Rattle.find_sources.proofs.blanks.some_miss.Given as goal
 
 abbrev pub invariant-loop-k : goal.invariant-loop-k
-invariant-loop-k l = (l.k ≤ LONGEST) × (any_below l.k (not_before_at (table_in l.t l.n) l.y l.s) ≡ false)
+invariant-loop-k l = (l.k ≤ LONGEST) × (any_below l.k (not_before_at (table_of l.t) l.y l.s) ≡ false)

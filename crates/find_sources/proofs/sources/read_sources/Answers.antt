@@ -10,10 +10,10 @@ loop-i-init c = (search rules, refl, listed_none _ _ refl)
 pub loop-i-preserved : goal.loop-i-preserved
 loop-i-preserved c =
     let inv = c.loop-i.invariant in
-    let more = listed_more _ _ _ _ (omega arith) (rw c.rows_of.ensures at c.read_source-s.ensures) inv.2 in
+    let more = listed_more _ _ _ _ (omega arith) (rw c.row_bytes.ensures at c.read_source-s.ensures) inv.2 in
     (search rules, more.room, more)
 
 pub returns : goal.returns
 returns c =
-    let e : c.loop-i.i ≡ c.args.n = omega arith in
+    let e : c.loop-i.i ≡ c.args.t.now.rows = omega arith in
     rw e at c.loop-i.invariant.2

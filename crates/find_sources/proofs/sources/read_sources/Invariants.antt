@@ -8,4 +8,4 @@ use Rattle.find_sources.specs.Sources.{Listed}
 use Rattle.find_sources.proofs.sources.read_sources.Given as goal
 
 abbrev pub invariant-loop-i : goal.invariant-loop-i
-invariant-loop-i l = (l.i ≤ l.n) × (length l.list ≡ SOURCES) × Listed (source_of (rows_in l.t)) l.i l.list
+invariant-loop-i l = (l.i ≤ l.t.rows) × (length l.list ≡ SOURCES) × Listed (source_of (rows_in l.t.bytes)) l.i l.list

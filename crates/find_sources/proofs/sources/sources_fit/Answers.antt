@@ -16,23 +16,23 @@ pub returns-then-is_broken : goal.returns-then-is_broken
 unfolding broken_in decode
 returns-then-is_broken c =
     let src = c.args.src.now in
-    let long : length (take c.args.n src) ≡ c.args.n = length-take-le c.args.n src c.requires.1 in
-    let low : c.loop-i.i < c.args.n = omega arith in
-    let item = get_or-take c.args.n src c.loop-i.i 0 low in
+    let long : length (take c.args.t.now.rows src) ≡ c.args.t.now.rows = length-take-le c.args.t.now.rows src c.requires.1 in
+    let low : c.loop-i.i < c.args.t.now.rows = omega arith in
+    let item = get_or-take c.args.t.now.rows src c.loop-i.i 0 low in
     broken_some _ src (any_in _ _ _ low (sym (rw item at c.is_broken.ensures) ∙ c.if-is_broken.true))
 
 pub loop-i-preserved : goal.loop-i-preserved
 unfolding broken_in
 loop-i-preserved c =
     let src = c.args.src.now in
-    let long : length (take c.args.n src) ≡ c.args.n = length-take-le c.args.n src c.requires.1 in
-    let low : c.loop-i.i < c.args.n = omega arith in
-    let item = get_or-take c.args.n src c.loop-i.i 0 low in
+    let long : length (take c.args.t.now.rows src) ≡ c.args.t.now.rows = length-take-le c.args.t.now.rows src c.requires.1 in
+    let low : c.loop-i.i < c.args.t.now.rows = omega arith in
+    let item = get_or-take c.args.t.now.rows src c.loop-i.i 0 low in
     (omega arith, any_more _ _ c.loop-i.invariant.1 (sym (rw item at c.is_broken.ensures) ∙ c.if-is_broken.false))
 
 pub returns : goal.returns
 unfolding decode
 returns c =
-    let long : length (take c.args.n c.args.src.now) ≡ c.args.n = length-take-le c.args.n c.args.src.now c.requires.1 in
-    let e : c.loop-i.i ≡ c.args.n = omega arith in
+    let long : length (take c.args.t.now.rows c.args.src.now) ≡ c.args.t.now.rows = length-take-le c.args.t.now.rows c.args.src.now c.requires.1 in
+    let e : c.loop-i.i ≡ c.args.t.now.rows = omega arith in
     broken_none _ _ (rw e at c.loop-i.invariant.1)

@@ -19,5 +19,5 @@ loop-z-preserved c = (search rules, any_more _ _ c.loop-z.invariant.1 (sym c.wri
 pub returns : goal.returns
 unfolding written decode
 returns c =
-    let e : c.loop-z.z ≡ c.args.n = omega arith in
+    let e : c.loop-z.z ≡ c.args.t.now.rows = omega arith in
     sym (rw e at c.loop-z.invariant.1)

@@ -1,5 +1,6 @@
 // Reasons: a derivation that one moment of a table, in one or two pieces, happens before another, for a reader to accept, or that it does not.
 #![tactic(auto)]
+
 ghost use Rattle.std.specs.Prelude.{◌≡◌, true, ◌≤◌, length, Ok};
 ghost use Rattle.bits.specs.Within.{Within};
 ghost use Rattle.model.specs.Limits.{WORK, STEPS};
@@ -61,7 +62,12 @@ fn derive_moments(t: &Run, e: Ends, w: &mut [u64], c: &mut [u16]) -> DeriveAnswe
 }
 
 // The derivation in the n rows of a table that is admitted; unless it is refusal 12, the work area's words end as zeros.
-fn derive_rows(t: &Run, e: Ends, work: &mut [u64], chain: &mut [u16]) -> Result<DeriveAnswer, Refusal>
+fn derive_rows(
+    t: &Run,
+    e: Ends,
+    work: &mut [u64],
+    chain: &mut [u16],
+) -> Result<DeriveAnswer, Refusal>
     requires { (WORK ≤ length work.old) × (STEPS ≤ length chain.old) × RunOf true t.now.bytes t.now.rows }
     ensures { (result ≡ derive_answer (derived_of (table_of t.now) e.first e.second))
         × (work.new ≡ work_after (derived_of (table_of t.now) e.first e.second) work.old)
@@ -91,7 +97,15 @@ pub fn derive_both(
         × (work.new ≡ work_after answer work.old)
         × (chain.new ≡ chain_after answer chain.old) }
 {
-    let t = door_open::enter(first, second, false, true, model::CHAIN, work.len(), chain.len())?;
+    let t = door_open::enter(
+        first,
+        second,
+        false,
+        true,
+        model::CHAIN,
+        work.len(),
+        chain.len(),
+    )?;
     let e = Ends {
         first: m,
         second: k,

@@ -47,13 +47,7 @@ fn is_filled(t: &Run, src: &[u16], s: &[u64], w: &mut [u64]) -> bool
 }
 
 // The answer where there is no race: the chosen sources in out, if they fill the table.
-fn choose_sources(
-    t: &Run,
-    src: &[u16],
-    s: &[u64],
-    w: &mut [u64],
-    out: &mut [u16],
-) -> FillAnswer
+fn choose_sources(t: &Run, src: &[u16], s: &[u64], w: &mut [u64], out: &mut [u16]) -> FillAnswer
     requires { (SOURCES ≤ length out.old) × (t.now.rows ≤ length src.now) × ToJudge (table_of t.now) t.now.rows s.now w.old }
     ensures { let table = table_of t.now in
         (Ok result ≡ fill_answer (filled_or none table (chosen table (source_in src.now))))

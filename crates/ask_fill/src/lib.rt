@@ -1,5 +1,6 @@
 // Fills: the source of each blank of a table in one or two pieces, or why there is none.
 #![tactic(auto)]
+
 ghost use Rattle.std.specs.Prelude.{◌≡◌, true, ◌≤◌, length, Ok};
 ghost use Rattle.model.specs.Limits.{SOURCES};
 ghost use Rattle.model.specs.Table.{source_of};
@@ -22,13 +23,7 @@ pub mod by_flags; // the flags engine
 pub mod by_sets; // the engine by sets of rows
 
 // A fill of a run of n rows, by the engine by sets, or by the flags engine.
-fn fill_run_by(
-    sets: bool,
-    t: &Run,
-    src: &[u16],
-    w: &mut [u64],
-    out: &mut [u16],
-) -> FillAnswer
+fn fill_run_by(sets: bool, t: &Run, src: &[u16], w: &mut [u64], out: &mut [u16]) -> FillAnswer
     requires { FitRun t.now.bytes t.now.rows × Buffers SOURCES w.old out.old × (t.now.rows ≤ length src.now) }
     ensures { Fills (table_of t.now) (source_in src.now) result
         w.old w.new out.old out.new }
@@ -78,13 +73,16 @@ pub fn fill_by(
 {
     first_byte(first);
     first_byte(second);
-    let t = door_open::enter(first, second, chains, true, model::SOURCES, work.len(), sources.len())?;
-    Ok(fill_run(
-        &t,
-        sets,
-        work,
-        sources,
-    ))
+    let t = door_open::enter(
+        first,
+        second,
+        chains,
+        true,
+        model::SOURCES,
+        work.len(),
+        sources.len(),
+    )?;
+    Ok(fill_run(&t, sets, work, sources))
 }
 
 // The same, by sets of rows.
@@ -105,7 +103,12 @@ pub fn fill_both(
 
 // Fills the blanks of a table in one piece.
 // Ruled out: one that takes the table for its own second piece too; one that turns the switch round.
-pub fn fill(table: &[u8], chains: bool, work: &mut [u64], sources: &mut [u16]) -> Result<FillAnswer, Refusal>
+pub fn fill(
+    table: &[u8],
+    chains: bool,
+    work: &mut [u64],
+    sources: &mut [u16],
+) -> Result<FillAnswer, Refusal>
     ensures { FilledBy chains table.now result work.old work.new sources.old sources.new
         × Bytes table.now }
 {

@@ -1,5 +1,6 @@
 // The weekly report of a table in one or two pieces: any bytes, and buffers of any length.
 #![tactic(auto)]
+
 ghost use Rattle.std.specs.Prelude.{◌≡◌, false, length, Ok};
 ghost use Rattle.model.specs.Limits.{CYCLE};
 ghost use Rattle.model.specs.Table.{source_of};
@@ -61,13 +62,26 @@ pub fn report_both(
         × (work.new ≡ work_after judged work.old)
         × (cycle.new ≡ cycle_after judged cycle.old) }
 {
-    let t = door_open::enter(first, second, chains, false, model::CYCLE, work.len(), cycle.len())?;
+    let t = door_open::enter(
+        first,
+        second,
+        chains,
+        false,
+        model::CYCLE,
+        work.len(),
+        cycle.len(),
+    )?;
     Ok(report_run(&t, work, cycle))
 }
 
 // Reports on one recorded run in one piece.
 // Ruled out: one that takes the table for its own second piece too; one that turns the switch round.
-pub fn report(table: &[u8], chains: bool, work: &mut [u64], cycle: &mut [u16]) -> Result<ReportAnswer, Refusal>
+pub fn report(
+    table: &[u8],
+    chains: bool,
+    work: &mut [u64],
+    cycle: &mut [u16],
+) -> Result<ReportAnswer, Refusal>
     ensures { let judged = check chains table.now (length work.old) (length cycle.old) in
         (result ≡ told_answer (report chains table.now (length work.old) (length cycle.old)))
         × (work.new ≡ work_after judged work.old)

@@ -72,10 +72,12 @@ pub fn read_place(s: &[u8], a: u8) -> [u16; 4]
 pub fn read_places(s: &[u8]) -> Places
     ensures { result ≡ places_of s.now }
 {
-    std::array::from_fn(|a: usize| -> [u16; 4]
-        requires { a < AGENTS }
-        ensures { result ≡ slot_at s.entry.now a }
-    { read_place(s, a as u8) })
+    std::array::from_fn(
+        |a: usize| -> [u16; 4]
+            requires { a < AGENTS }
+            ensures { result ≡ slot_at s.entry.now a }
+        { read_place(s, a as u8) },
+    )
 }
 
 // The first version, and the first with counted ranks.

@@ -100,10 +100,8 @@ pub fn choose(t: &Run, n: usize, src: &[u16], w: &[u64]) -> [u16; 128]
     ensures { Listed (chosen (table_in t.now n) (λ i. get_or src.now i 0)) n result }
 {
     let mut list = [0u16; 128];
-    for i in 0..n {
-        let s = src[i];
-        let c = chosen_at(t, n, i, s, w);
-        list[i] = c;
+    for (i, s) in src[..n].iter().enumerate() {
+        list[i] = chosen_at(t, n, i, *s, w);
     }
     list
 }

@@ -47,10 +47,12 @@ fn levels(p: Places, a: usize) -> [usize; 32]
     requires { a < AGENTS }
     ensures { Levels p a AGENTS result }
 {
-    std::array::from_fn(|b: usize| -> usize
-        requires { (a < AGENTS) × (b < AGENTS) }
-        ensures { Level p a b result }
-    { level(p[a], p[b], a == b) })
+    std::array::from_fn(
+        |b: usize| -> usize
+            requires { (a < AGENTS) × (b < AGENTS) }
+            ensures { Level p a b result }
+        { level(p[a], p[b], a == b) },
+    )
 }
 
 // The sets of scopes from l on, of those from word `base` on, take in v.

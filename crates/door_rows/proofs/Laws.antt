@@ -1,8 +1,6 @@
 -- Laws that the readers' proofs cite. Assumes nothing.
-use Rattle.std.proofs.Common.{◌≡◌, ℕ, zero, suc, ◌+◌, ◌-◌, ◌*◌, ◌<◌, ◌≤◌, true, false, List, [], ◌∷◌, length, get_or, take, drop, set, sym, refl, ◌∙◌, le_of_eq, add-one, arith, length-drop, drop_of_length-le, take_all, take-suc-set}
+use Rattle.std.proofs.Common.{◌≡◌, ℕ, zero, suc, ◌+◌, ◌-◌, ◌*◌, ◌≤◌, true, false, List, [], length, take, drop, sym, refl, ◌∙◌, le_of_eq, arith, length-drop, drop_of_length-le, take_all}
 use lib.ListN.{get_or-eq_default}
-use lib.Seq.{paste, paste-suc}
-use Rattle.finite.specs.Lists.{tabulate}
 use Rattle.model.specs.Header.{HEADER, PLACE_BYTES, HOSTS_PLACE_BYTES, ROW_BYTES, pair_at, agents_at, has_hosts, dependency_bytes, rows_end, quad_at, rows_at}
 use Rattle.model.specs.Header.{rows_begin, row_bytes}
 

@@ -135,13 +135,15 @@ pub fn row_bytes(r: Row, s: Source) -> [u8; 16]
 pub fn entry_bytes(entries: [Entry; 128]) -> [u8; ROWS]
     ensures { result ≡ tabulate (entry_byte entries) 2048 }
 {
-    std::array::from_fn(|k: usize| -> u8
-        requires { k < 2048 }
-        ensures { result ≡ entry_byte entries k }
-    {
-        let e = entries[k / bytes::ROW_BYTES];
-        row_bytes(e.row, e.source)[k % bytes::ROW_BYTES]
-    })
+    std::array::from_fn(
+        |k: usize| -> u8
+            requires { k < 2048 }
+            ensures { result ≡ entry_byte entries k }
+        {
+            let e = entries[k / bytes::ROW_BYTES];
+            row_bytes(e.row, e.source)[k % bytes::ROW_BYTES]
+        },
+    )
 }
 
 // The number that byte k of the dependencies' bytes belongs to.
@@ -162,10 +164,12 @@ fn dependency_number(d: Dependencies, k: usize) -> u16
 fn dependency_bytes(d: Dependencies) -> [u8; AFTER]
     ensures { result ≡ tabulate (dependency_byte d) 258 }
 {
-    std::array::from_fn(|k: usize| -> u8
-        requires { k < 258 }
-        ensures { result ≡ dependency_byte d k }
-    { half(dependency_number(d, k), k) })
+    std::array::from_fn(
+        |k: usize| -> u8
+            requires { k < 258 }
+            ensures { result ≡ dependency_byte d k }
+        { half(dependency_number(d, k), k) },
+    )
 }
 
 // ---- the table

@@ -40,10 +40,12 @@ fn place_in(q: &[u16], a: u8) -> [u16; 4]
 fn places_in(q: &[u16]) -> Places
     ensures { result ≡ places_in q.now }
 {
-    std::array::from_fn(|a: usize| -> [u16; 4]
-        requires { a < AGENTS }
-        ensures { result ≡ place_in q.entry.now a }
-    { place_in(q, a as u8) })
+    std::array::from_fn(
+        |a: usize| -> [u16; 4]
+            requires { a < AGENTS }
+            ensures { result ≡ place_in q.entry.now a }
+        { place_in(q, a as u8) },
+    )
 }
 
 fn rows_in(b: &[u8]) -> u8

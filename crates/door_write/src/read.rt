@@ -23,10 +23,12 @@ fn read_entry(rows: &[u8], i: u16) -> Entry
 pub fn entries_in(rows: &[u8]) -> [Entry; 128]
     ensures { result ≡ entries_in rows.now }
 {
-    std::array::from_fn(|i: usize| -> Entry
-        requires { i < ROWS }
-        ensures { result ≡ entry_of rows.entry.now i }
-    { read_entry(rows, i as u16) })
+    std::array::from_fn(
+        |i: usize| -> Entry
+            requires { i < ROWS }
+            ensures { result ≡ entry_of rows.entry.now i }
+        { read_entry(rows, i as u16) },
+    )
 }
 
 pub fn read_entries(s: &[u8]) -> [Entry; 128]

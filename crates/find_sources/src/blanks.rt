@@ -100,10 +100,8 @@ pub fn choose(t: &Run, src: &[u16], w: &[u64]) -> [u16; 128]
     ensures { Listed (chosen (table_of t.now) (λ i. get_or src.now i 0)) t.now.rows result }
 {
     let mut list = [0u16; 128];
-    for i in 0..t.rows {
-        let s = src[i];
-        let c = chosen_at(t, i, s, w);
-        list[i] = c;
+    for (i, s) in src[..t.rows].iter().enumerate() {
+        list[i] = chosen_at(t, i, *s, w);
     }
     list
 }

@@ -60,9 +60,9 @@ module _ {F A : Type 0} (g : Mut F (ℕ × Unit {0}) A) (f : F) (h : ℕ → A) 
   pub from_fn_tabulates : (n : ℕ) → IsFromFnResult g f ys n → ys ≡ tabulate h n
   from_fn_tabulates n r =
       ext_get_or d ys (tabulate h n) (r.long ∙ sym (length_tabulate h n))
-        (λ k l.
-        let b : k < n = rw r.long at l in
-        calls_at n 0 f refl r.each k (omega arith) (omega arith) ∙ sym (get_d_tabulate h n k d b))
+      (λ k l.
+      let b : k < n = rw r.long at l in
+      calls_at n 0 f refl r.each k (omega arith) (omega arith) ∙ sym (get_d_tabulate h n k d b))
 
 -- functions that agree below the bound
 pub tabulate_cong : {A : Type 0} (f g : ℕ → A) (n : ℕ) → ((k : ℕ) → k < n → f k ≡ g k) → tabulate f n ≡ tabulate g n

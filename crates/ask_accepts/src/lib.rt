@@ -150,7 +150,13 @@ pub fn accepts_both(
 
 // Judges a derivation that the first moment happens before the second in a table in one piece.
 // Ruled out: one that reads from the second moment to the first; one that takes the table for its own second piece too.
-pub fn accepts(table: &[u8], first: u16, second: u16, reason: Reason, steps: &[u16]) -> Result<bool, Refusal>
+pub fn accepts(
+    table: &[u8],
+    first: u16,
+    second: u16,
+    reason: Reason,
+    steps: &[u16],
+) -> Result<bool, Refusal>
     ensures { result ≡ accept_answer (judge table.now first second reason steps.now) }
 {
     accepts_both(table, &table[..0], first, second, reason, steps)

@@ -66,13 +66,7 @@ pub fn check_by(
         cycle.len(),
         &mut t,
     )?;
-    Ok(judge_run(
-        &t,
-        counts.rows as usize,
-        sets,
-        work,
-        cycle,
-    ))
+    Ok(judge_run(&t, counts.rows as usize, sets, work, cycle))
 }
 
 // The same, by sets of rows.
@@ -92,7 +86,12 @@ pub fn check_both(
 
 // Judges one recorded run in one piece.
 // Ruled out: one that answers race-free to every table; one that takes the table for its own second piece too.
-pub fn check(table: &[u8], chains: bool, work: &mut [u64], cycle: &mut [u16]) -> Result<CheckAnswer, Refusal>
+pub fn check(
+    table: &[u8],
+    chains: bool,
+    work: &mut [u64],
+    cycle: &mut [u16],
+) -> Result<CheckAnswer, Refusal>
     ensures { Checked chains table.now result work.old work.new cycle.old cycle.new }
 {
     check_both(table, &table[..0], chains, work, cycle)

@@ -62,7 +62,13 @@ fn derive_moments(t: &Run, n: usize, e: Ends, w: &mut [u64], c: &mut [u16]) -> D
 }
 
 // The derivation in the n rows of a table that is admitted; unless it is refusal 12, the work area's words end as zeros.
-fn derive_rows(t: &Run, n: usize, e: Ends, work: &mut [u64], chain: &mut [u16]) -> Result<DeriveAnswer, Refusal>
+fn derive_rows(
+    t: &Run,
+    n: usize,
+    e: Ends,
+    work: &mut [u64],
+    chain: &mut [u16],
+) -> Result<DeriveAnswer, Refusal>
     requires { (WORK ≤ length work.old) × (STEPS ≤ length chain.old) × RunOf true t.now n }
     ensures { (result ≡ derive_answer (derived_of (table_in t.now n) e.first e.second))
         × (work.new ≡ work_after (derived_of (table_in t.now n) e.first e.second) work.old)

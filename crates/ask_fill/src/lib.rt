@@ -91,13 +91,7 @@ pub fn fill_by(
         sources.len(),
         &mut t,
     )?;
-    Ok(fill_run(
-        &t,
-        counts.rows as usize,
-        sets,
-        work,
-        sources,
-    ))
+    Ok(fill_run(&t, counts.rows as usize, sets, work, sources))
 }
 
 // The same, by sets of rows.
@@ -118,7 +112,12 @@ pub fn fill_both(
 
 // Fills the blanks of a table in one piece.
 // Ruled out: one that takes the table for its own second piece too; one that turns the switch round.
-pub fn fill(table: &[u8], chains: bool, work: &mut [u64], sources: &mut [u16]) -> Result<FillAnswer, Refusal>
+pub fn fill(
+    table: &[u8],
+    chains: bool,
+    work: &mut [u64],
+    sources: &mut [u16],
+) -> Result<FillAnswer, Refusal>
     ensures { FilledBy chains table.now result work.old work.new sources.old sources.new
         × Bytes table.now }
 {

@@ -78,7 +78,12 @@ pub fn report_both(
 
 // Reports on one recorded run in one piece.
 // Ruled out: one that takes the table for its own second piece too; one that turns the switch round.
-pub fn report(table: &[u8], chains: bool, work: &mut [u64], cycle: &mut [u16]) -> Result<ReportAnswer, Refusal>
+pub fn report(
+    table: &[u8],
+    chains: bool,
+    work: &mut [u64],
+    cycle: &mut [u16],
+) -> Result<ReportAnswer, Refusal>
     ensures { let judged = check chains table.now (length work.old) (length cycle.old) in
         (result ≡ told_answer (report chains table.now (length work.old) (length cycle.old)))
         × (work.new ≡ work_after judged work.old)

@@ -32,7 +32,14 @@ pub fn overwrites(t: &Run, n: usize, source: usize, z: usize, y: usize, w: &[u64
 
 // The first writer that overwrites y's source before y, at the lowest byte.
 // Ruled out: one that gives another writer than the first.
-fn overwritten_by(t: &Run, n: usize, s: &[u64], source: usize, y: usize, w: &[u64]) -> Option<Overwritten>
+fn overwritten_by(
+    t: &Run,
+    n: usize,
+    s: &[u64],
+    source: usize,
+    y: usize,
+    w: &[u64],
+) -> Option<Overwritten>
     requires { (source < n) × RowThat reads (row_of (rows_in t.now)) n y × ToJudge (table_in t.now n) n s.now w.now }
     ensures { result ≡ found_writer (table_in t.now n) source y }
 {

@@ -15,7 +15,7 @@
 -- From a function to its meaning: the contract of a function is an equation. This page speaks of its right side:
 --   ask_check::check::check_both is `check_answer (check_both …)` and leaves what a check leaves, of `check_both …`
 --   ask_fill::fill_both is `fill_answer (fill_both …)` and leaves what a fill leaves, of `fill_both …`
---   ask_report::report_both is `report_both …` and leaves what a check leaves, of `check_both …`
+--   ask_report::report_both is `told_answer (report_both …)` and leaves what a check leaves, of `check_both …`
 --   ask_derive::derive_both is `derive_answer (derive_both …)` and leaves what a derivation leaves, of `derive_both …`
 --   ask_accepts::accepts_both is `accept_answer (judge_both …)`
 --   door_pieces::pieces_fault is `pieces_fault f s`, row_part `row_part f s n`, row_place `row_place f s n`

@@ -12,7 +12,8 @@
 -- (crates/door_write/specs/Encode.antt); `Bytes s` says that the numbers of s are bytes, as those of a `&[u8]` are.
 --
 -- From a function to its meaning: the contract of a function is an equation. This page speaks of its right side:
---   door_step::step_from        is `stepped_at s i`: a reader opened on the table s, put at place i, and one step of it
+--   door_step::step_from        is `step_result (stepped_at s i)`: a reader opened on the table s, put at place i, and one
+--     step of it
 --   door_step::open             gives a reader r with `Opens s r` of a table that a fill admits, and of any other its refusal
 --   door_step::RowReader::next  is `steps_of r i` at call i, counted from 0
 -- crates/stramashly_numbers/specs/Main.antt has the number that C gets for a step, and what its buffer then holds.

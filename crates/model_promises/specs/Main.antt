@@ -13,7 +13,7 @@
 -- From a function to its meaning: the contract of an entry point is an equation. This page speaks of its right side:
 --   ask_check::check::check is `check_answer (check …)`, and leaves `work_after (check …)` and `cycle_after (check …)`
 --   ask_fill::fill is `fill_answer (fill …)`, and leaves `work_after (fill …)` and `sources_after (fill …)`
---   ask_report::report is `report …`, and leaves what a check leaves
+--   ask_report::report is `told_answer (report …)`, and leaves what a check leaves
 --   ask_derive::derive is `derive_answer (derive …)`, and leaves `work_after (derive …)` and `chain_after (derive …)`
 --   ask_accepts::accepts is `accept_answer (judge …)`
 -- Callers.antt has each case of these answers; crates/stramashly_numbers/specs/Main.antt the number that C gets.

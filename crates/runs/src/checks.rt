@@ -1,5 +1,5 @@
 // The answer to a `check` line.
-use model::CheckAnswer;
+use model::{CheckAnswer, Refusal};
 use std::io;
 
 // The work area and the cycle buffer hold ones when they are lent: an answer must not come from what they held.
@@ -15,21 +15,19 @@ fn print_cycle(rt: &impl Print, rows: u16, cycle: &[u16]) -> io::Result<()> {
     crate::print::numbers(rt, cycle, model::CYCLE_EDGES, model::CYCLE_EDGES + n)
 }
 
-fn print_answer(rt: &impl Print, a: CheckAnswer, cycle: &[u16]) -> io::Result<()> {
-    match a {
-        CheckAnswer::Refused { number, row } => crate::print::refused(rt, number, row)?,
-        CheckAnswer::Cycle { rows } => print_cycle(rt, rows, cycle)?,
-        CheckAnswer::Overwritten {
-            reader,
-            writer,
-            byte,
-        } => crate::print::found(rt, b"overwritten", reader, writer, byte)?,
-        CheckAnswer::Race {
-            first,
-            second,
-            byte,
-        } => crate::print::found(rt, b"race", first, second, byte)?,
-        CheckAnswer::RaceFree => crate::print::word(rt, b"race-free")?,
+fn print_answer(
+    rt: &impl Print,
+    answer: Result<CheckAnswer, Refusal>,
+    cycle: &[u16],
+) -> io::Result<()> {
+    match answer {
+        Err(refusal) => crate::print::refused(rt, refusal)?,
+        Ok(CheckAnswer::Cycle { rows }) => print_cycle(rt, rows, cycle)?,
+        Ok(CheckAnswer::Overwritten(o)) => {
+            crate::print::found(rt, b"overwritten", o.reader, o.writer, o.byte)?
+        }
+        Ok(CheckAnswer::Race(race)) => crate::print::race(rt, race)?,
+        Ok(CheckAnswer::RaceFree) => crate::print::word(rt, b"race-free")?,
     }
     crate::print::line_end(rt)
 }

@@ -1,17 +1,18 @@
 // The answer to a `fill` line.
-use model::FillAnswer;
+use model::{FillAnswer, Refusal};
 use std::io;
 
-fn print_answer(rt: &impl Print, a: FillAnswer, rows: u8, sources: &[u16]) -> io::Result<()> {
-    match a {
-        FillAnswer::Refused { number, row } => crate::print::refused(rt, number, row)?,
-        FillAnswer::Race {
-            first,
-            second,
-            byte,
-        } => crate::print::found(rt, b"race", first, second, byte)?,
-        FillAnswer::None => crate::print::word(rt, b"none")?,
-        FillAnswer::Filled => print_sources(rt, rows, sources)?,
+fn print_answer(
+    rt: &impl Print,
+    answer: Result<FillAnswer, Refusal>,
+    rows: u8,
+    sources: &[u16],
+) -> io::Result<()> {
+    match answer {
+        Err(refusal) => crate::print::refused(rt, refusal)?,
+        Ok(FillAnswer::Race(race)) => crate::print::race(rt, race)?,
+        Ok(FillAnswer::None) => crate::print::word(rt, b"none")?,
+        Ok(FillAnswer::Filled) => print_sources(rt, rows, sources)?,
     }
     crate::print::line_end(rt)
 }

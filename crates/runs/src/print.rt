@@ -1,4 +1,5 @@
 // Words, numbers and line ends on standard output.
+use model::{Race, Refusal};
 use std::io;
 
 pub fn word(rt: &impl Print, text: &[u8]) -> io::Result<()> {
@@ -28,10 +29,10 @@ pub fn numbers(rt: &impl Print, list: &[u16], from: usize, to: usize) -> io::Res
 }
 
 // A refusal's number and row.
-pub fn refused(rt: &impl Print, n: u8, row: u16) -> io::Result<()> {
+pub fn refused(rt: &impl Print, refusal: Refusal) -> io::Result<()> {
     word(rt, b"refused")?;
-    number(rt, n as u16)?;
-    number(rt, row)
+    number(rt, refusal.number as u16)?;
+    number(rt, refusal.row)
 }
 
 // A word, two rows and a byte.
@@ -40,4 +41,9 @@ pub fn found(rt: &impl Print, text: &[u8], first: u16, second: u16, byte: u16) -
     number(rt, first)?;
     number(rt, second)?;
     number(rt, byte)
+}
+
+// A race's two rows and its byte.
+pub fn race(rt: &impl Print, race: Race) -> io::Result<()> {
+    found(rt, b"race", race.first, race.second, race.byte)
 }

@@ -15,181 +15,50 @@ ghost use Rattle.model_laws.specs.FilledLaws.{Bytes};
 ghost use Rattle.door_write.specs.Answer.{buffer_after};
 ghost use Rattle.door_write.specs.Parts.{parts_answer, parts_table};
 ghost use Rattle.door_write.specs.Read.{read_answer, places_after, rows_after, dependencies_after};
-ghost use Rattle.stramashly.specs.Packed.{packed, pack_place, pack_check, pack_fill, pack_derive, pack_accept, pack_report, share_after, reason_of, is_on};
-ghost use Rattle.stramashly.specs.Packed.{pack_write, pack_read, pack_open, pack_step, step_put, row_answer, row_after};
+ghost use Rattle.stramashly.specs.Packed.{pack_place, pack_check, pack_fill, pack_derive, pack_accept, pack_report, share_put, share_after};
+ghost use Rattle.stramashly.specs.Packed.{reason_of, is_on, pack_write, pack_read, pack_open, row_put, row_answer, row_after};
 ghost use Rattle.door_pieces.specs.Pieces.{count_both, check_both, fill_both, report_both, derive_both, judge_both, row_place};
 
-use door_pieces::RowPlace;
 use door_rows::bytes;
 use door_step::Stepped;
-use door_write::{ReadAnswer, WriteAnswer, encode};
-use model::{AcceptAnswer, Admission, CheckAnswer, DeriveAnswer, FillAnswer, Reason, ReportAnswer};
+use door_write::encode;
+use model::{FillAnswer, Reason, Refusal, ReportAnswer};
+use packed::{Accepted, FillOf, PROGRAM_ORDER, Packed, Written};
 
-// The class set that says program order, where a caller can hand in no enum.
-const PROGRAM_ORDER: u8 = 16;
+mod packed; // an answer as one number
 
-fn pack(code: u8, a: u16, b: u16, c: u16) -> u64
-    ensures { result ≡ packed code a b c }
-{
-    (code as u64) * 281474976710656 + (a as u64) * 4294967296 + (b as u64) * 65536 + (c as u64)
-}
-
-fn pack_check(answer: CheckAnswer) -> u64
-    ensures { result ≡ pack_check answer }
-{
-    match answer {
-        CheckAnswer::Refused { number, row } => pack(4, number as u16, row, 0),
-        CheckAnswer::Cycle { rows } => pack(3, rows, 0, 0),
-        CheckAnswer::Overwritten {
-            reader,
-            writer,
-            byte,
-        } => pack(2, reader, writer, byte),
-        CheckAnswer::Race {
-            first,
-            second,
-            byte,
-        } => pack(1, first, second, byte),
-        CheckAnswer::RaceFree => pack(0, 0, 0, 0),
-    }
-}
-
-fn pack_fill(answer: FillAnswer, rows: u8) -> u64
+// A fill's answer goes with the number of rows of its table.
+fn pack_fill(answer: Result<FillAnswer, Refusal>, rows: u8) -> u64
     ensures { result ≡ pack_fill answer rows }
 {
     match answer {
-        FillAnswer::Refused { number, row } => pack(4, number as u16, row, 0),
-        FillAnswer::Race {
-            first,
-            second,
-            byte,
-        } => pack(1, first, second, byte),
-        FillAnswer::None => pack(5, 0, 0, 0),
-        FillAnswer::Filled => pack(6, rows as u16, 0, 0),
-    }
-}
-
-fn pack_derive(answer: DeriveAnswer) -> u64
-    ensures { result ≡ pack_derive answer }
-{
-    match answer {
-        DeriveAnswer::Refused { number, row } => pack(4, number as u16, row, 0),
-        DeriveAnswer::ProgramOrder => pack(8, PROGRAM_ORDER as u16, 0, 0),
-        DeriveAnswer::Chain { classes, steps } => pack(8, classes as u16, steps, 0),
-        DeriveAnswer::NotBefore => pack(9, 0, 0, 0),
-    }
-}
-
-fn pack_accept(answer: AcceptAnswer) -> u64
-    ensures { result ≡ pack_accept answer }
-{
-    match answer {
-        AcceptAnswer::Refused { number, row } => pack(4, number as u16, row, 0),
-        AcceptAnswer::Accepted => pack(10, 0, 0, 0),
-        AcceptAnswer::NotAccepted => pack(11, 0, 0, 0),
-    }
-}
-
-fn pack_report(answer: ReportAnswer) -> u64
-    ensures { result ≡ pack_report answer }
-{
-    match answer {
-        ReportAnswer::Refused { number, row } => pack(4, number as u16, row, 0),
-        ReportAnswer::Cycle { rows } => pack(3, rows, 0, 0),
-        ReportAnswer::Overwritten {
-            reader,
-            writer,
-            byte,
-        } => pack(2, reader, writer, byte),
-        ReportAnswer::NoPairs => pack(18, 0, 0, 0),
-        ReportAnswer::Report(r) => pack(7, r.mutuals, r.ordered, r.racing),
+        Ok(answer) => FillOf { rows, answer }.pack(),
+        Err(refusal) => refusal.pack(),
     }
 }
 
 // The report's own share, where there is a report; else what was there stays.
-fn put_share(answer: ReportAnswer, share: &mut f64)
-    ensures { share.new ≡ share_after answer share.old }
+fn put_share(answer: Result<ReportAnswer, Refusal>, share: &mut f64)
+    ensures { share.new ≡ share_put answer share.old }
 {
-    let ReportAnswer::Report(r) = answer else {
+    let Ok(told) = answer else {
         return;
     };
-    *share = r.share;
-}
-
-fn pack_write(answer: WriteAnswer) -> u64
-    ensures { result ≡ pack_write answer }
-{
-    match answer {
-        WriteAnswer::Refused { number, row } => pack(4, number as u16, row, 0),
-        WriteAnswer::Written { bytes } => pack(12, bytes, 0, 0),
-    }
-}
-
-fn pack_read(answer: ReadAnswer) -> u64
-    ensures { result ≡ pack_read answer }
-{
-    match answer {
-        ReadAnswer::Refused { number, row } => pack(4, number as u16, row, 0),
-        ReadAnswer::Read {
-            version,
-            agents,
-            rows,
-            dependencies,
-        } => pack(
-            19,
-            (version as u16) * 256 + (agents as u16),
-            rows as u16,
-            dependencies,
-        ),
-    }
-}
-
-fn pack_open(answer: Admission) -> u64
-    ensures { result ≡ pack_open answer }
-{
-    match answer {
-        Admission::Refused { number, row } => pack(4, number as u16, row, 0),
-        Admission::Admitted { agents, rows } => pack(13, rows as u16, agents as u16, 0),
-    }
-}
-
-fn pack_step(step: Stepped) -> u64
-    ensures { result ≡ pack_step step }
-{
-    match step {
-        Stepped::Refused { number, row } => pack(4, number as u16, row, 0),
-        Stepped::Row {
-            row: _,
-            source: _,
-            next,
-        } => pack(14, next, 0, 0),
-        Stepped::End { next } => pack(15, next, 0, 0),
+    if let ReportAnswer::Report(report) = told {
+        *share = report.share;
     }
 }
 
 // The row's bytes, where a row is given; else what was there stays.
-fn put_row(step: Stepped, out: &mut [u8])
+fn put_row(step: Result<Stepped, Refusal>, out: &mut [u8])
     requires { ROW_BYTES ≤ length out.old }
-    ensures { out.new ≡ step_put step out.old }
+    ensures { out.new ≡ row_put step out.old }
 {
-    let Stepped::Row {
-        row,
-        source,
-        next: _,
-    } = step
-    else {
+    let Ok(stepped) = step else {
         return;
     };
-    bytes::put(out, 0, &encode::row_bytes(row, source), 16);
-}
-
-fn pack_place(place: RowPlace) -> u64
-    ensures { result ≡ pack_place place }
-{
-    match place {
-        RowPlace::First { at } => pack(16, 0, at, 0),
-        RowPlace::Second { at } => pack(16, 1, at, 0),
-        RowPlace::Neither => pack(17, 0, 0, 0),
+    if let Stepped::Row { entry, next: _ } = stepped {
+        bytes::put(out, 0, &encode::row_bytes(entry.row, entry.source), 16);
     }
 }
 
@@ -210,7 +79,7 @@ pub fn stramashly_check(table: &[u8], chains: u8, work: &mut [u64], cycle: &mut 
         × (work.new ≡ work_after answer work.old)
         × (cycle.new ≡ cycle_after answer cycle.old) }
 {
-    pack_check(ask_check::check::check(table, !(chains == 0), work, cycle))
+    ask_check::check::check(table, !(chains == 0), work, cycle).pack()
 }
 
 // The same by the flags engine, for whoever wants a second answer: it is proved to be the first one.
@@ -226,7 +95,7 @@ pub fn stramashly_check_by_flags(
         × (work.new ≡ work_after answer work.old)
         × (cycle.new ≡ cycle_after answer cycle.old) }
 {
-    pack_check(ask_check::check::check_by_flags(table, !(chains == 0), work, cycle))
+    ask_check::check::check_by_flags(table, !(chains == 0), work, cycle).pack()
 }
 
 // Fills the blanks of one recorded run: `ask_fill::fill`, packed, with the number of rows where it filled them.
@@ -274,7 +143,7 @@ pub fn stramashly_derive(
         × (work.new ≡ Derivation.work_after answer work.old)
         × (chain.new ≡ chain_after answer chain.old) }
 {
-    pack_derive(ask_derive::derive(table, first, second, work, chain))
+    ask_derive::derive(table, first, second, work, chain).pack()
 }
 
 // Whether a derivation shows that one moment happens before another: `ask_accepts::accepts`, packed; class set 16 is the word program
@@ -283,7 +152,8 @@ pub fn stramashly_derive(
 pub fn stramashly_accepts(table: &[u8], first: u16, second: u16, classes: u8, steps: &[u16]) -> u64
     ensures { result ≡ pack_accept (accept_answer (judge table.now first second (reason_of classes) steps.now)) }
 {
-    pack_accept(ask_accepts::accepts(table, first, second, reason_of(classes), steps))
+    let answer = ask_accepts::accepts(table, first, second, reason_of(classes), steps);
+    answer.map(Accepted).pack()
 }
 
 // How bad a recorded run was: `ask_report::report`, packed, with the pairs that are mutually-ordered, ordered and racing, which add up to the
@@ -305,7 +175,7 @@ pub fn stramashly_report(
 {
     let answer = ask_report::report(table, !(chains == 0), work, cycle);
     put_share(answer, share);
-    pack_report(answer)
+    answer.pack()
 }
 
 // Writes a table of values: `door_write::parts::write_parts`, packed.
@@ -321,7 +191,8 @@ pub fn stramashly_write(
         let table = parts_table version places.now rows.now dependencies.now in
         (result ≡ pack_write answer) × (out.new ≡ buffer_after answer table out.old) }
 {
-    pack_write(door_write::parts::write_parts(version, places, rows, dependencies, out))
+    let answer = door_write::parts::write_parts(version, places, rows, dependencies, out);
+    answer.map(Written).pack()
 }
 
 // The values of a table, in the front of lent parts: `door_write::read::read_parts`, packed. `stramashly_write` of them gives the table again.
@@ -339,7 +210,7 @@ pub fn stramashly_read(
         × (rows.new ≡ rows_after answer s rows.old)
         × (dependencies.new ≡ dependencies_after answer s dependencies.old) }
 {
-    pack_read(door_write::read::read_parts(table, places, rows, dependencies))
+    door_write::read::read_parts(table, places, rows, dependencies).pack()
 }
 
 // Whether a table can be stepped through: `door_step::opening`, packed.
@@ -347,7 +218,7 @@ pub fn stramashly_read(
 pub fn stramashly_open(table: &[u8]) -> u64
     ensures { result ≡ pack_open (admission true table.now) }
 {
-    pack_open(door_step::opening(table))
+    door_step::opening(table).pack()
 }
 
 // The row at a place of a table, as its sixteen bytes, or the end, and the next place: `door_step::step_from`, packed. What a fill refuses,
@@ -358,11 +229,11 @@ pub fn stramashly_row(table: &[u8], at: u16, row: &mut [u8]) -> u64
         × (row.new ≡ row_after table.now at row.old) }
 {
     if row.len() < bytes::ROW_BYTES {
-        return pack(4, 11, 0, 0);
+        return Refusal { number: 11, row: 0 }.pack();
     }
     let step = door_step::step_from(table, at);
     put_row(step, row);
-    pack_step(step)
+    step.pack()
 }
 
 // ---- a table in two pieces
@@ -381,7 +252,7 @@ pub fn stramashly_check2(
         × (work.new ≡ work_after answer work.old)
         × (cycle.new ≡ cycle_after answer cycle.old) }
 {
-    pack_check(ask_check::check::check_both(first, second, !(chains == 0), work, cycle))
+    ask_check::check::check_both(first, second, !(chains == 0), work, cycle).pack()
 }
 
 // Fills the blanks of one recorded run in two pieces: `ask_fill::fill_both`, packed, with the number of rows of both where it filled them.
@@ -423,7 +294,7 @@ pub fn stramashly_report2(
 {
     let answer = ask_report::report_both(first, second, !(chains == 0), work, cycle);
     put_share(answer, share);
-    pack_report(answer)
+    answer.pack()
 }
 
 // Why moment m happens before moment k in a table in two pieces: `ask_derive::derive_both`, packed.
@@ -441,7 +312,7 @@ pub fn stramashly_derive2(
         × (work.new ≡ Derivation.work_after answer work.old)
         × (chain.new ≡ chain_after answer chain.old) }
 {
-    pack_derive(ask_derive::derive_both(first, second, m, k, work, chain))
+    ask_derive::derive_both(first, second, m, k, work, chain).pack()
 }
 
 // Whether a derivation shows it in a table in two pieces: `ask_accepts::accepts_both`, packed.
@@ -456,7 +327,8 @@ pub fn stramashly_accepts2(
 ) -> u64
     ensures { result ≡ pack_accept (accept_answer (judge_both first.now second.now m k (reason_of classes) steps.now)) }
 {
-    pack_accept(ask_accepts::accepts_both(first, second, m, k, reason_of(classes), steps))
+    let answer = ask_accepts::accepts_both(first, second, m, k, reason_of(classes), steps);
+    answer.map(Accepted).pack()
 }
 
 // Where row n of a table in two pieces has its sixteen bytes: `door_pieces::row_place`, packed. Nothing is copied.
@@ -464,5 +336,5 @@ pub fn stramashly_accepts2(
 pub fn stramashly_row2<'a>(first: &'a [u8], second: &'a [u8], n: u16) -> u64
     ensures { result ≡ pack_place (row_place first.now second.now n) }
 {
-    pack_place(door_pieces::row_place(first, second, n))
+    door_pieces::row_place(first, second, n).pack()
 }

@@ -1,18 +1,20 @@
 -- How a packed number is read, and that it is read back as what was packed. Assumes nothing.
-use Rattle.std.specs.Prelude.{◌≡◌, refl, cond, ℕ, ◌+◌, ◌*◌, ◌/◌, ◌%◌, ◌<◌, length, eqb, Float}
+use Rattle.std.specs.Prelude.{◌≡◌, refl, cond, ℕ, ◌+◌, ◌*◌, ◌/◌, ◌%◌, ◌<◌, length, eqb, Float, Bool, true, false}
 use Rattle.std.specs.declared.option.Option.{Option}
 use Rattle.std.specs.declared.option.Option.TheVariants.{None, Some}
 use Rattle.std.proofs.Common.{ap, arith, ne_eqb}
+use Rattle.std.specs.declared.result.Result.{Result}
+use Rattle.std.specs.declared.result.Result.TheVariants.{Ok, Err}
+use Rattle.model.specs.declared.Refusal.{Refusal}
+use Rattle.model.specs.Refusal.{refusal, admission_answer}
 use Rattle.model.specs.declared.CheckAnswer.{CheckAnswer}
 use Rattle.model.specs.declared.CheckAnswer.TheVariants as said
 use Rattle.model.specs.declared.FillAnswer.{FillAnswer}
 use Rattle.model.specs.declared.FillAnswer.TheVariants as filled
 use Rattle.model.specs.declared.DeriveAnswer.{DeriveAnswer}
 use Rattle.model.specs.declared.DeriveAnswer.TheVariants as derived
-use Rattle.model.specs.declared.AcceptAnswer.{AcceptAnswer}
-use Rattle.model.specs.declared.AcceptAnswer.TheVariants as accept
 use Rattle.model.specs.declared.Report.{Report}
-use Rattle.model.specs.Report.{Told}
+use Rattle.model.specs.Report.{Told, told_answer}
 use Rattle.model.specs.Report as told
 use Rattle.model.specs.Check.{Verdict, check_answer}
 use Rattle.model.specs.Fill.{Outcome, fill_answer}
@@ -21,14 +23,16 @@ use Rattle.model.specs.declared.Admission.{Admission}
 use Rattle.model.specs.Refusal as admit
 use Rattle.door_pieces.specs.declared.RowPlace.{RowPlace}
 use Rattle.door_pieces.specs.declared.RowPlace.TheVariants as place
-use Rattle.door_write.specs.Answer.{WriteAnswer}
+use Rattle.door_write.specs.Answer.{WriteAnswer, write_result}
 use Rattle.door_write.specs.Answer as written
-use Rattle.door_write.specs.Read.{ReadAnswer}
+use Rattle.door_write.specs.Read.{ReadAnswer, read_result}
 use Rattle.door_write.specs.Read as values
-use Rattle.door_step.specs.Steps.{StepAnswer}
+use Rattle.door_step.specs.Steps.{StepAnswer, step_result}
 use Rattle.door_step.specs.Steps as step
 use Rattle.model_promises.specs.Bounds.{SMALL, SmallVerdict, SmallOutcome, SmallReport, SmallDerived, SmallJudged}
 use Rattle.stramashly.specs.Packed.{packed, PROGRAM_ORDER, pack_check, pack_fill, pack_derive, pack_accept, pack_report, share_after}
+use Rattle.stramashly.specs.Packed.{pack_result, refusal_number, check_number, fill_number, derive_number, accept_number, report_number, share_put}
+use Rattle.stramashly.specs.Packed.{write_number, read_number, open_number, step_number, place_number}
 use Rattle.stramashly.specs.Packed.{pack_write, pack_read, pack_open, pack_step, pack_place}
 
 -- ---- definitions: the parts of a number, as the header's macros take them
@@ -53,15 +57,16 @@ reads_back code a b c p q r = (omega arith, omega arith, omega arith, omega arit
 -- ---- a check's number
 
 -- the answer by code and parts
-unfoldable pub check_by : ℕ → ℕ → ℕ → ℕ → CheckAnswer
-check_by k a b c = cond (eqb k 0) said.RaceFree
-    (cond (eqb k 1) (said.Race a b c) (cond (eqb k 2) (said.Overwritten a b c) (cond (eqb k 3) (said.Cycle a) (said.Refused a b))))
+unfoldable pub check_by : ℕ → ℕ → ℕ → ℕ → Result CheckAnswer Refusal
+check_by k a b c = cond (eqb k 0) (Ok said.RaceFree)
+    (cond (eqb k 1) (Ok (said.Race (record { first = a; second = b; byte = c })))
+    (cond (eqb k 2) (Ok (said.Overwritten (record { reader = a; writer = b; byte = c }))) (cond (eqb k 3) (Ok (said.Cycle a)) (Err (refusal a b)))))
 
-abbrev pub read_check : ℕ → CheckAnswer
+abbrev pub read_check : ℕ → Result CheckAnswer Refusal
 read_check r = check_by (CODE r) (A r) (B r) (C r)
 
 pub check_back : (v : Verdict) → SmallVerdict v → read_check (pack_check (check_answer v)) ≡ check_answer v
-unfolding check_by pack_check check_answer
+unfolding check_by pack_check pack_result check_number refusal_number check_answer
 check_back (Verdict.refused n i) h = let p = reads_back 4 n i 0 h.0 h.1 (omega arith) in rw (p.0, p.1, p.2) refl
 check_back (Verdict.cyclic rows edges) h = let p = reads_back 3 (length rows) 0 0 h (omega arith) (omega arith) in rw (p.0, p.1) refl
 check_back (Verdict.overwritten y z b) h = let p = reads_back 2 y z b h.0 h.1 h.2 in rw (p.0, p.1, p.2, p.3) refl
@@ -70,14 +75,15 @@ check_back Verdict.race_free h = let p = reads_back 0 0 0 0 (omega arith) (omega
 
 -- ---- a fill's number
 
-unfoldable pub fill_by : ℕ → ℕ → ℕ → ℕ → FillAnswer
-fill_by k a b c = cond (eqb k 1) (filled.Race a b c) (cond (eqb k 5) filled.None (cond (eqb k 6) filled.Filled (filled.Refused a b)))
+unfoldable pub fill_by : ℕ → ℕ → ℕ → ℕ → Result FillAnswer Refusal
+fill_by k a b c = cond (eqb k 1) (Ok (filled.Race (record { first = a; second = b; byte = c })))
+    (cond (eqb k 5) (Ok filled.None) (cond (eqb k 6) (Ok filled.Filled) (Err (refusal a b))))
 
-abbrev pub read_fill : ℕ → FillAnswer
+abbrev pub read_fill : ℕ → Result FillAnswer Refusal
 read_fill r = fill_by (CODE r) (A r) (B r) (C r)
 
 pub fill_back : (rows : ℕ) (o : Outcome) → SmallOutcome rows o → read_fill (pack_fill (fill_answer o) rows) ≡ fill_answer o
-unfolding fill_by pack_fill fill_answer
+unfolding fill_by pack_fill pack_result fill_number refusal_number fill_answer
 fill_back rows (Outcome.refused n i) h = let p = reads_back 4 n i 0 h.0 h.1 (omega arith) in rw (p.0, p.1, p.2) refl
 fill_back rows (Outcome.race x y b) h = let p = reads_back 1 x y b h.0 h.1 h.2 in rw (p.0, p.1, p.2, p.3) refl
 fill_back rows Outcome.none h = let p = reads_back 5 0 0 0 (omega arith) (omega arith) (omega arith) in rw p.0 refl
@@ -85,15 +91,15 @@ fill_back rows (Outcome.filled l) h = let p = reads_back 6 rows 0 0 h (omega ari
 
 -- ---- a derivation's number
 
-unfoldable pub derive_by : ℕ → ℕ → ℕ → DeriveAnswer
+unfoldable pub derive_by : ℕ → ℕ → ℕ → Result DeriveAnswer Refusal
 derive_by k a b =
-    cond (eqb k 8) (cond (eqb a PROGRAM_ORDER) derived.ProgramOrder (derived.Chain a b)) (cond (eqb k 9) derived.NotBefore (derived.Refused a b))
+    cond (eqb k 8) (cond (eqb a PROGRAM_ORDER) (Ok derived.ProgramOrder) (Ok (derived.Chain a b))) (cond (eqb k 9) (Ok derived.NotBefore) (Err (refusal a b)))
 
-abbrev pub read_derive : ℕ → DeriveAnswer
+abbrev pub read_derive : ℕ → Result DeriveAnswer Refusal
 read_derive r = derive_by (CODE r) (A r) (B r)
 
 pub derive_back : (d : Derived) → SmallDerived d → read_derive (pack_derive (derive_answer d)) ≡ derive_answer d
-unfolding derive_by pack_derive derive_answer
+unfolding derive_by pack_derive pack_result derive_number refusal_number derive_answer
 derive_back (Derived.refused n i) h = let p = reads_back 4 n i 0 h.0 h.1 (omega arith) in rw (p.0, p.1, p.2) refl
 derive_back Derived.word h = let p = reads_back 8 PROGRAM_ORDER 0 0 (omega arith) (omega arith) (omega arith) in rw (p.0, p.1) refl
 derive_back (Derived.chained c l) h =
@@ -104,14 +110,14 @@ derive_back Derived.not_before h = let p = reads_back 9 0 0 0 (omega arith) (ome
 
 -- ---- a reader's number
 
-unfoldable pub accept_by : ℕ → ℕ → ℕ → AcceptAnswer
-accept_by k a b = cond (eqb k 10) accept.Accepted (cond (eqb k 11) accept.NotAccepted (accept.Refused a b))
+unfoldable pub accept_by : ℕ → ℕ → ℕ → Result Bool Refusal
+accept_by k a b = cond (eqb k 10) (Ok true) (cond (eqb k 11) (Ok false) (Err (refusal a b)))
 
-abbrev pub read_accept : ℕ → AcceptAnswer
+abbrev pub read_accept : ℕ → Result Bool Refusal
 read_accept r = accept_by (CODE r) (A r) (B r)
 
 pub accept_back : (j : Judged) → SmallJudged j → read_accept (pack_accept (accept_answer j)) ≡ accept_answer j
-unfolding accept_by pack_accept accept_answer
+unfolding accept_by pack_accept pack_result accept_number refusal_number accept_answer
 accept_back (Judged.refused n i) h = let p = reads_back 4 n i 0 h.0 h.1 (omega arith) in rw (p.0, p.1, p.2) refl
 accept_back Judged.accepted h = let p = reads_back 10 0 0 0 (omega arith) (omega arith) (omega arith) in rw p.0 refl
 accept_back Judged.not_accepted h = let p = reads_back 11 0 0 0 (omega arith) (omega arith) (omega arith) in rw p.0 refl
@@ -134,7 +140,7 @@ made : (r : Report) (d : ℕ) → d ≡ r.conflicting
 made r d e = rw e refl
 
 pub report_back : (a : Told) (x : Float) → SmallReport a → read_report (pack_report a) (share_after a x) ≡ a
-unfolding tell_by report_by pack_report share_after
+unfolding tell_by report_by pack_report pack_result report_number refusal_number told_answer share_after share_put
 report_back (told.refused n i) x h = let p = reads_back 4 n i 0 h.0 h.1 (omega arith) in rw (p.0, p.1, p.2) refl
 report_back (told.cyclic k) x h = let p = reads_back 3 k 0 0 h (omega arith) (omega arith) in rw (p.0, p.1) refl
 report_back (told.overwritten y z b) x h = let p = reads_back 2 y z b h.0 h.1 h.2 in rw (p.0, p.1, p.2, p.3) refl
@@ -156,7 +162,7 @@ SmallAdmission (admit.Refused n i) = (n < SMALL) × (i < SMALL)
 SmallAdmission (admit.Admitted a n) = (a < SMALL) × (n < SMALL)
 
 pub open_back : (x : Admission) → SmallAdmission x → read_open (pack_open x) ≡ x
-unfolding open_by pack_open
+unfolding open_by pack_open pack_result open_number refusal_number admission_answer
 open_back (admit.Refused n i) h = let p = reads_back 4 n i 0 h.0 h.1 (omega arith) in rw (p.0, p.1, p.2) refl
 open_back (admit.Admitted a n) h = let p = reads_back 13 n a 0 h.1 h.0 (omega arith) in rw (p.0, p.1, p.2) refl
 
@@ -185,7 +191,7 @@ SmallStep (step.Row r s next) = next < SMALL
 SmallStep (step.End next) = next < SMALL
 
 pub row_back : (x : StepAnswer) → SmallStep x → read_row (pack_step x) ≡ said_of x
-unfolding row_by pack_step said_of
+unfolding row_by pack_step pack_result step_number refusal_number step_result said_of
 row_back (step.Refused n i) h = let p = reads_back 4 n i 0 h.0 h.1 (omega arith) in rw (p.0, p.1, p.2) refl
 row_back (step.Row r s next) h = let p = reads_back 14 next 0 0 h (omega arith) (omega arith) in rw (p.0, p.1) refl
 row_back (step.End next) h = let p = reads_back 15 next 0 0 h (omega arith) (omega arith) in rw (p.0, p.1) refl
@@ -203,7 +209,7 @@ SmallWrite (written.Refused n i) = (n < SMALL) × (i < SMALL)
 SmallWrite (written.Written m) = m < SMALL
 
 pub write_back : (x : WriteAnswer) → SmallWrite x → read_write (pack_write x) ≡ x
-unfolding write_by pack_write
+unfolding write_by pack_write pack_result write_number refusal_number write_result
 write_back (written.Refused n i) h = let p = reads_back 4 n i 0 h.0 h.1 (omega arith) in rw (p.0, p.1, p.2) refl
 write_back (written.Written m) h = let p = reads_back 12 m 0 0 h (omega arith) (omega arith) in rw (p.0, p.1) refl
 
@@ -220,7 +226,7 @@ SmallValues (values.Refused n i) = (n < SMALL) × (i < SMALL)
 SmallValues (values.Read version agents rows n) = (version < 256) × (agents < 256) × (rows < SMALL) × (n < SMALL)
 
 pub values_back : (x : ReadAnswer) → SmallValues x → read_values (pack_read x) ≡ x
-unfolding values_by pack_read
+unfolding values_by pack_read pack_result read_number refusal_number read_result
 values_back (values.Refused n i) h = let p = reads_back 4 n i 0 h.0 h.1 (omega arith) in rw (p.0, p.1, p.2) refl
 values_back (values.Read version agents rows n) h =
     let v = h.0 in
@@ -244,7 +250,7 @@ SmallPlace (Some (place.Second at)) = at < SMALL
 SmallPlace None = Unit
 
 pub place_back : (x : Option RowPlace) → SmallPlace x → read_place (pack_place x) ≡ x
-unfolding place_by pack_place
+unfolding place_by pack_place place_number
 place_back (Some (place.First at)) h = let p = reads_back 16 0 at 0 (omega arith) h (omega arith) in rw (p.0, p.1, p.2) refl
 place_back (Some (place.Second at)) h = let p = reads_back 16 1 at 0 (omega arith) h (omega arith) in rw (p.0, p.1, p.2) refl
 place_back None h = let p = reads_back 17 0 0 0 (omega arith) (omega arith) (omega arith) in rw p.0 refl

@@ -21,7 +21,8 @@ fn read(file: impl AsRef<Path>) -> String {
 }
 
 fn source() -> String {
-    read("crates/stramashly/src/lib.rt") + &read("crates/stramashly_c/src/lib.rt")
+    let files = ["stramashly/src/lib.rt", "stramashly/src/packed.rt", "stramashly_c/src/lib.rt"];
+    files.map(|file| read(Path::new("crates").join(file))).concat()
 }
 
 /// The text without `//` comments, its lines joined.

@@ -1,21 +1,11 @@
 use mathlib.Core.Path.{sym, ap, ◌∙◌}
-use Rattle.model.specs.declared.FillAnswer.{FillAnswer}
-use Rattle.stramashly.specs.Packed.{pack_fill}
+use Rattle.stramashly.specs.Packed.{fill_number, pack_result, pack_fill}
 use Rattle.stramashly.proofs.pack_fill.Goals as goal
 
-pub returns-in-Refused : goal.returns-in-Refused
-unfolding pack_fill
-returns-in-Refused c = c.pack.ensures ∙ sym (ap (λ (a : FillAnswer). pack_fill a c.args.rows) c.in-Refused.is)
+pub returns-in-Ok : goal.returns-in-Ok
+unfolding pack_fill pack_result
+returns-in-Ok c = c.pack.ensures ∙ sym (ap (pack_result (fill_number c.args.rows)) c.in-Ok.is)
 
-pub returns-in-Race : goal.returns-in-Race
-unfolding pack_fill
-returns-in-Race c = c.pack-in-Race.ensures ∙ sym (ap (λ (a : FillAnswer). pack_fill a c.args.rows)
-    c.in-Race.is)
-
-pub returns-in-None : goal.returns-in-None
-unfolding pack_fill
-returns-in-None c = c.pack-in-None.ensures ∙ sym (ap (λ (a : FillAnswer). pack_fill a c.args.rows) c.in-None.is)
-
-pub returns-in-Filled : goal.returns-in-Filled
-unfolding pack_fill
-returns-in-Filled c = c.pack-in-Filled.ensures ∙ sym (ap (λ (a : FillAnswer). pack_fill a c.args.rows) c.in-Filled.is)
+pub returns-in-Err : goal.returns-in-Err
+unfolding pack_fill pack_result
+returns-in-Err c = c.pack-in-Err.ensures ∙ sym (ap (pack_result (fill_number c.args.rows)) c.in-Err.is)

@@ -3,6 +3,7 @@ use Rattle.stramashly.specs.Packed.{pack_check}
 use Rattle.stramashly.proofs.stramashly_check.Goals as goal
 
 pub returns : goal.returns
+unfolding pack_check
 returns c =
-    let checked = c.check.ensures in
-    (c.pack_check.ensures ∙ ap pack_check checked.0, checked.1, checked.2)
+    let told = c.check.ensures in
+    (c.pack.ensures ∙ ap pack_check told.0, told.1, told.2)

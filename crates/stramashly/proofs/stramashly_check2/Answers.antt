@@ -3,6 +3,7 @@ use Rattle.stramashly.specs.Packed.{pack_check}
 use Rattle.stramashly.proofs.stramashly_check2.Goals as goal
 
 pub returns : goal.returns
+unfolding pack_check
 returns c =
     let told = c.check_both.ensures in
-    (c.pack_check.ensures ∙ ap pack_check told.0, told.1, told.2)
+    (c.pack.ensures ∙ ap pack_check told.0, told.1, told.2)

@@ -3,6 +3,7 @@ use Rattle.stramashly.specs.Packed.{pack_derive}
 use Rattle.stramashly.proofs.stramashly_derive.Goals as goal
 
 pub returns : goal.returns
+unfolding pack_derive
 returns c =
-    let derived = c.derive.ensures in
-    (c.pack_derive.ensures ∙ ap pack_derive derived.0, derived.1, derived.2)
+    let told = c.derive.ensures in
+    (c.pack.ensures ∙ ap pack_derive told.0, told.1, told.2)

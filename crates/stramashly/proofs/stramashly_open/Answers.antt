@@ -1,6 +1,7 @@
-use Rattle.stramashly.specs.Packed.{pack_open}
 use mathlib.Core.Path.{ap, ◌∙◌}
+use Rattle.stramashly.specs.Packed.{pack_result, open_number, pack_open}
 use Rattle.stramashly.proofs.stramashly_open.Goals as goal
 
 pub returns : goal.returns
-returns c = c.pack_open.ensures ∙ ap pack_open c.opening.ensures
+unfolding pack_open
+returns c = c.pack.ensures ∙ ap (pack_result open_number) c.opening.ensures

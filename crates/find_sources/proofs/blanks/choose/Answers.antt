@@ -14,8 +14,8 @@ pub loop-i-preserved : goal.loop-i-preserved
 loop-i-preserved c =
     let inv = c.loop-i.invariant in
     let src = c.args.src.now in
-    let long : length (take c.args.n src) ≡ c.args.n = length-take-le c.args.n src c.requires.0 in
-    let item = get_or-take c.args.n src c.loop-i.i 0 (omega arith) in
+    let long : length (take c.args.t.now.rows src) ≡ c.args.t.now.rows = length-take-le c.args.t.now.rows src c.requires.0 in
+    let item = get_or-take c.args.t.now.rows src c.loop-i.i 0 (omega arith) in
     let e = chosen_is _ (at src) _ _ (rw item at c.chosen_at.ensures) in
     (search rules, simp length-set inv.1, listed_more _ _ _ _ (omega arith) e inv.2)
 

@@ -1,5 +1,5 @@
 use Rattle.stramashly.specs.Packed.{packed}
-use Rattle.stramashly.proofs.pack.Goals as goal
+use Rattle.stramashly.proofs.packed.pack.Goals as goal
 
 pub returns : goal.returns
 unfolding packed

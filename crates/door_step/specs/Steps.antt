@@ -10,7 +10,7 @@ use Rattle.model.specs.declared.Entry.{Entry}
 use Rattle.model.specs.declared.Refusal.{Refusal}
 use Rattle.model.specs.declared.Admission.{Admission}
 use Rattle.model.specs.Refusal.{refusal}
-use Rattle.model.specs.Refusal as admit
+use Rattle.model.specs.declared.Admission.TheVariants as admit
 use Rattle.model.specs.Table.{row_of, source_of}
 use Rattle.model.specs.Header.{agents_at, rows_at, row_bytes}
 use Rattle.door_step.specs.declared.RowReader.{RowReader}

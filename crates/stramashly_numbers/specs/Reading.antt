@@ -20,7 +20,7 @@ use Rattle.model.specs.Check.{Verdict, check_answer}
 use Rattle.model.specs.Fill.{Outcome, fill_answer}
 use Rattle.model.specs.Reason.{Judged, Derived, accept_answer, derive_answer}
 use Rattle.model.specs.declared.Admission.{Admission}
-use Rattle.model.specs.Refusal as admit
+use Rattle.model.specs.declared.Admission.TheVariants as admit
 use Rattle.door_pieces.specs.declared.RowPlace.{RowPlace}
 use Rattle.door_pieces.specs.declared.RowPlace.TheVariants as place
 use Rattle.door_write.specs.Answer.{WriteAnswer, write_result}

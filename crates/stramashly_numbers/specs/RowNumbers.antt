@@ -8,7 +8,7 @@ use Prim.Native.Nat.{ℕ, ◌+◌, ◌-◌, ◌*◌, ◌≤◌, ◌<◌}
 use Rattle.std.proofs.Math.Decide.{dec_lt}
 use Rattle.finite.specs.Logic.{split}
 use Rattle.model.specs.declared.Admission.{Admission}
-use Rattle.model.specs.Refusal as admit
+use Rattle.model.specs.declared.Admission.TheVariants as admit
 use Rattle.model.specs.Limits.{ROWS, AGENTS}
 use Rattle.model.specs.Table.{dependency_count}
 use Rattle.model.specs.Header.{HEADER, VERSION_HOSTS, ROW_BYTES, version_at, agents_at, rows_at, has_hosts, rows_begin, dependency_bytes}

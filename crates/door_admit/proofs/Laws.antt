@@ -20,10 +20,10 @@ use Rattle.model.specs.declared.Fault.TheVariants.{Short, Version, Limits, Lengt
 use Rattle.model.specs.Fault.{fault_number}
 use Rattle.model.specs.declared.Refusal.{Refusal}
 use Rattle.model.specs.declared.Admission.{Admission}
-use Rattle.model.specs.declared.Admission.TheVariants.{Admitted, Refused}
+use Rattle.model.specs.declared.Admission.TheVariants.{Refused}
 use Rattle.model.specs.Limits.{DEPENDENCIES, INITIAL, BLANK}
 use Rattle.model.specs.Row.{PLAIN_WRITE, ATOMIC_READ, ATOMIC_WRITE, RMW, BARRIER, CONTROL}
-use Rattle.model.specs.Row.{plain, atomic, access, barrier, control, plain_read, reads, ranked, operation, same_instance}
+use Rattle.model.specs.Row.{plain, atomic, access, barrier, control, plain_read, reads, ranked, same_instance}
 use Rattle.model.specs.Scope.{agent_kind, shares, same_location, mutual_rows}
 use Rattle.model.specs.Table.{Mode, Table, OFF, byte_of, pair_of, row_of, mode_of, decode, source_of}
 use Rattle.model.specs.Header.{HEADER, ROW_BYTES, pair_at}
@@ -33,7 +33,7 @@ use Rattle.model.specs.Refusal.{shape_or}
 use Rattle.model.specs.TableFault.{other_class, other_class_at, class_taken, writer_fits, source_fits, source_broken, same_rank, same_rank_at, rank_taken}
 use Rattle.model.specs.TableFault.{apart, apart_at, instance_broken, rival, outside, outside_at, begins, unfit}
 use Rattle.model.specs.Refusal.{kind_over, agents_known, dependencies_few, names_missing, dependencies_named, hosts_fault}
-use Rattle.model.specs.RowFault.{codes_fit, agent_fits, operation_fits, plain_fits, atomic_fits, barrier_fits, semantics_fit, bytes_fit, kind_fits, extent_fits}
+use Rattle.model.specs.RowFault.{codes_fit, agent_fits, plain_fits, atomic_fits, barrier_fits, semantics_fit, bytes_fit, kind_fits}
 use Rattle.model.specs.Refusal.{refusal, admission_answer, faulty, first_fault, row_fault_at}
 use Rattle.model.specs.TableFault.{table_fault}
 use Rattle.model.specs.RowFault.{form_fault, row_fault}
@@ -547,7 +547,7 @@ module _ (f : ℕ → ℕ) (n : ℕ) where
 
   -- an admission that begins with these faults
   first_hit : (next : Admission) {x : Refusal} → first_refused f n ≡ Err x → admission_answer (first_fault f n next) ≡ Err x
-  unfolding first_refused first_fault admission_answer
+  unfolding first_refused first_fault admission_answer refusal_in
   first_hit next e = go (ltb (least n (faulty f)) n) e
     where
       go : (b : Bool) {x : Refusal} → cond b (Err (refusal (f (least n (faulty f))) (least n (faulty f)))) (Ok (tt {0})) ≡ Err x

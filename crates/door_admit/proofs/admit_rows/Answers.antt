@@ -1,4 +1,4 @@
-use mathlib.Core.Path.{refl, sym, ◌∙◌}
+use mathlib.Core.Path.{sym, ◌∙◌}
 use Rattle.std.proofs.lemmas.Result.{err_from_is_err_and}
 use Rattle.door_admit.proofs.Laws.{rows_early, rows_late, rows_pass}
 use Rattle.door_admit.proofs.admit_rows.Goals as goal

@@ -1,4 +1,4 @@
-use mathlib.Core.Path.{refl, sym}
+use mathlib.Core.Path.{refl}
 use Rattle.std.proofs.lemmas.Result.{err_from_is_err_and}
 use Rattle.door_admit.proofs.Laws.{fault_counts, hosts_is, shape_refused, shape_passed}
 use Rattle.door_admit.proofs.header.header_fault.Goals as goal

@@ -17,7 +17,8 @@ use Rattle.std.specs.declared.result.Result.{Result}
 use Rattle.std.specs.declared.result.Result.TheVariants.{Ok, Err}
 use Rattle.model.specs.declared.Fault.{Fault}
 use Rattle.model.specs.declared.Fault.TheVariants.{Short, Version, Limits, Length, Code, KindFit, Extent, Class, Source, Rank, Buffer, Room, Instance, Run, AgentKind, Dependencies, Dependency, AgentRow, OperationFit, Rows}
-use Rattle.model.specs.Fault.{fault_number}
+use Rattle.std.specs.Prelude.{is_err}
+use Rattle.model.specs.Fault.{fault_number, number_of}
 use Rattle.model.specs.declared.Refusal.{Refusal}
 use Rattle.model.specs.declared.Admission.{Admission}
 use Rattle.model.specs.declared.Admission.TheVariants.{Refused}
@@ -491,6 +492,14 @@ fault_counts Dependency e = absurd (omega (arith, e))
 fault_counts AgentRow e = absurd (omega (arith, e))
 fault_counts OperationFit e = absurd (omega (arith, e))
 fault_counts Rows e = absurd (omega (arith, e))
+
+pub fault_found : (r : Result Unit Fault) → is_err r ≡ true → number_of r ≡ 0 → ⊥
+fault_found (Ok u) h = not_both h refl
+fault_found (Err fault) h = fault_counts fault
+
+pub fault_missed : (r : Result Unit Fault) → is_err r ≡ false → number_of r ≡ 0
+fault_missed (Ok u) h = refl
+fault_missed (Err fault) h = not_both refl h
 
 -- ---- the number r of row i says whether it has a fault
 

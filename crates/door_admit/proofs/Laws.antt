@@ -16,7 +16,7 @@ use Rattle.model.specs.declared.Row.{Row}
 use Rattle.std.specs.declared.result.Result.{Result}
 use Rattle.std.specs.declared.result.Result.TheVariants.{Ok, Err}
 use Rattle.model.specs.declared.Fault.{Fault}
-use Rattle.model.specs.declared.Fault.TheVariants.{Short, Version, Limits, Length, Code, KindFit, Extent, Class, Source, Rank, Buffer, Room, Instance, Run, AgentKind, Dependencies, Dependency, AgentRow, OperationFit, Rows}
+use Rattle.model.specs.declared.Fault.TheVariants.{Short, Version, Limits, Length, Code, KindFit, Extent, Class, Source, Rank, Buffer, Moments, Room, Instance, Run, AgentKind, Dependencies, Dependency, AgentRow, OperationFit, Rows}
 use Rattle.std.specs.Prelude.{is_err}
 use Rattle.model.specs.Fault.{fault_number, number_of}
 use Rattle.model.specs.declared.Refusal.{Refusal}
@@ -483,6 +483,7 @@ fault_counts Class e = absurd (omega (arith, e))
 fault_counts Source e = absurd (omega (arith, e))
 fault_counts Rank e = absurd (omega (arith, e))
 fault_counts Buffer e = absurd (omega (arith, e))
+fault_counts Moments e = absurd (omega (arith, e))
 fault_counts Room e = absurd (omega (arith, e))
 fault_counts Instance e = absurd (omega (arith, e))
 fault_counts Run e = absurd (omega (arith, e))

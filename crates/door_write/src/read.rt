@@ -8,7 +8,7 @@ ghost use Rattle.door_write.specs.Read.{fronted, place_numbers, end_of, end_numb
 
 use crate::{Dependencies, Sizes, encode, parts};
 use door_rows::{bytes, scopes};
-use model::{Entry, Places, Refusal};
+use model::{Entry, Fault, Places, Refusal};
 
 fn read_entry(rows: &[u8], i: u16) -> Entry
     ensures { result ≡ entry_of rows.now i }
@@ -122,7 +122,7 @@ pub fn read_parts(
         × (dependencies.new ≡ dependencies_after answer s dependencies.old) }
 {
     if !lent_fit(places.len(), rows.len(), dependencies.len()) {
-        return Err(Refusal { number: 11, row: 0 });
+        return Err(Fault::Buffer.into());
     }
     let counts = door_admit::admit(table, true)?;
     let d = read_dependencies(table);

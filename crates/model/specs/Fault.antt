@@ -3,7 +3,7 @@ use Rattle.std.specs.Prelude.{ℕ}
 use Rattle.std.specs.declared.result.Result.{Result}
 use Rattle.std.specs.declared.result.Result.TheVariants.{Ok, Err}
 use Rattle.model.specs.declared.Fault.{Fault}
-use Rattle.model.specs.declared.Fault.TheVariants.{Short, Version, Limits, Length, Code, KindFit, Extent, Class, Source, Rank, Buffer, Room, Instance, Run, AgentKind, Dependencies, Dependency, AgentRow, OperationFit, Rows}
+use Rattle.model.specs.declared.Fault.TheVariants.{Short, Version, Limits, Length, Code, KindFit, Extent, Class, Source, Rank, Buffer, Moments, Room, Instance, Run, AgentKind, Dependencies, Dependency, AgentRow, OperationFit, Rows}
 
 abbrev pub fault_number : Fault → ℕ
 fault_number Short = 1
@@ -17,6 +17,7 @@ fault_number Class = 8
 fault_number Source = 9
 fault_number Rank = 10
 fault_number Buffer = 11
+fault_number Moments = 12
 fault_number Room = 13
 fault_number Instance = 14
 fault_number Run = 15

@@ -100,7 +100,7 @@ pub struct Entry {
 
 // ---- answers
 
-// What the door says of a table.
+// What is said of a table: definitions speak of an admission, and code says the same as a `Result` of counts or a refusal.
 #[derive(Clone, Copy)]
 pub enum Admission {
     Admitted { agents: u8, rows: u8 },
@@ -121,6 +121,7 @@ pub enum Fault {
     Source = 9,
     Rank = 10,
     Buffer = 11,
+    Moments = 12,
     Room = 13,
     Instance = 14,
     Run = 15,

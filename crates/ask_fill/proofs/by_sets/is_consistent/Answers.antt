@@ -1,4 +1,4 @@
-use mathlib.Core.Path.{refl, ◌∙◌}
+use mathlib.Core.Path.{refl}
 use Rattle.model.specs.Table.{decode}
 use Rattle.sets_grids.specs.Given.{given_few}
 use Rattle.sets_grids.specs.Grid.{grid_made}

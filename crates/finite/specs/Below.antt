@@ -1,6 +1,6 @@
 -- Tests on the numbers below a bound: some, all, the least, the first pair; and what each says.
 -- Each recurses on the bound, so that a loop that counts up goes one `suc` at a time. Assumes nothing.
-use Rattle.std.specs.Prelude.{◌≡◌, Bool, true, false, not, ◌⊎◌, ltb, eqb}
+use Rattle.std.specs.Prelude.{Option, MatchOption, ◌≡◌, Bool, true, false, not, ◌⊎◌, ltb, eqb}
 use Rattle.std.proofs.Math.Path.{refl}
 use Rattle.std.proofs.Common.{sym, ◌∙◌, inl, inr, not-suc-le-zero, eq-or-lt_of_le, le_of_suc-le-suc, ltb-true, ltb-false, lt-ltb, le-ltb, eqb-true, eq-eqb, ne_eqb}
 use Rattle.std.proofs.Math.Logic.{⊎_elim}
@@ -31,6 +31,10 @@ onward false k = suc k
 unfoldable pub least : ℕ → (ℕ → Bool) → ℕ
 least zero p = zero
 least (suc n) p = onward (p (least n p)) (least n p)
+
+-- what a search below n gives: the number v; or none, where v is n
+abbrev pub Finds : ℕ → ℕ → Option ℕ → Type 0
+Finds n v r = MatchOption r (v ≡ n) (λ k. (k < n) × (k ≡ v))
 
 -- what the least is
 pub record Least (n : ℕ) (p : ℕ → Bool) (l : ℕ) : Type 0 where

@@ -14,7 +14,6 @@ use Rattle.model.specs.Refusal.{admission}
 use Rattle.model_laws.specs.AdmissionLaws.{sound_admitted, admitted_sound}
 use Rattle.door_step.specs.declared.RowReader.{RowReader}
 use Rattle.std.specs.declared.option.Option.TheVariants.{None, Some}
-use Rattle.model.specs.declared.Entry.{Entry}
 use Rattle.door_step.specs.Steps as answer
 use Rattle.door_step.specs.Steps.{entry_at, step_at, next_at, opened_part, steps_of, stepped, stepped_at}
 use Rattle.door_step.specs.StepLaws.{step_end, step_row, next_stays, next_moves, steps_rows, steps_end}

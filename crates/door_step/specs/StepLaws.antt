@@ -1,10 +1,9 @@
 -- What the steps of a reader at place 0 come to. Assumes nothing.
 use Rattle.std.specs.Prelude.{◌≡◌, refl, true, List, ℕ, zero, suc, ◌+◌, ◌-◌, ◌≤◌, ◌<◌, OnSome, IfNone}
-use Rattle.std.proofs.Common.{sym, ap, ◌∙◌, arith, add-one, le-leb}
+use Rattle.std.proofs.Common.{sym, ◌∙◌, arith, add-one, le-leb}
 use Rattle.std.proofs.Math.Decide.{dec_lt}
 use Rattle.std.proofs.lemmas.Bool.{lt-leb}
-use Rattle.model.specs.Table.{row_of, source_of}
-use Rattle.model.specs.Header.{agents_at, rows_at, row_bytes}
+use Rattle.model.specs.Header.{agents_at, rows_at}
 use Rattle.model.specs.declared.Admission.TheVariants.{Admitted, Refused}
 use Rattle.model.specs.Refusal.{admission, admission_answer}
 use Rattle.door_step.specs.declared.RowReader.{RowReader}

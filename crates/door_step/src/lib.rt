@@ -56,7 +56,7 @@ pub fn opening(table: &[u8]) -> Result<Counts, Refusal>
     door_admit::admit(table, true)
 }
 
-// OpenGives a table that a fill admits, 11 aside; any other gets its refusal.
+// Opens a table that a fill admits, 11 aside; any other gets its refusal.
 // Ruled out: one that opens a table with a faulty row up to that row; one that refuses a blank.
 pub fn open(table: &[u8]) -> Result<RowReader<'_>, Refusal>
     ensures { OpenGives table.now result }
@@ -82,7 +82,7 @@ impl Iterator for RowReader<'_> {
     }
 }
 
-// OpenGives a reader, puts it at a place, and steps: for a caller that holds the table and the place, and no reader.
+// Opens a reader, puts it at a place, and steps: for a caller that holds the table and the place, and no reader.
 // Ruled out: one that gives a row of a table that a fill refuses; one that leaves the end.
 pub fn step_from(table: &[u8], at: u16) -> Result<Stepped, Refusal>
     ensures { result ≡ step_result (stepped_at table.now at) }

@@ -4,7 +4,8 @@
 ghost use Rattle.std.specs.Prelude.{◌≡◌, length};
 ghost use Rattle.finite.specs.Below.{any_below};
 ghost use Rattle.door_write.specs.Encode.{encode};
-ghost use Rattle.door_write.specs.Answer.{version_known, counts_fit, number_over, dependencies_fit, values_fault, write_answer, write_result, buffer_after};
+ghost use Rattle.door_write.specs.Answer.{version_known, counts_fit, number_over, dependencies_fit, values_fault, write_answer, buffer_after};
+ghost use Rattle.door_write.specs.Answer.{write_result};
 
 use door_rows::{bytes, pick, scopes};
 use model::{Entry, Places, Refusal};

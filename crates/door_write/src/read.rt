@@ -4,7 +4,8 @@ ghost use Rattle.model.specs.Limits.{ROWS, DEPENDENCIES};
 ghost use Rattle.model.specs.Header.{ROW_BYTES};
 ghost use Rattle.door_write.specs.Encode.{entry_of, entries_in, entries_of, dependencies_of, rows_part};
 ghost use Rattle.door_write.specs.Parts.{PLACE_NUMBERS};
-ghost use Rattle.door_write.specs.Read.{fronted, place_numbers, end_of, end_numbers, lent_fit, read_answer, read_result, places_after, rows_after, dependencies_after};
+ghost use Rattle.door_write.specs.Read.{fronted, place_numbers, end_of, end_numbers, lent_fit, read_answer, places_after, rows_after, dependencies_after};
+ghost use Rattle.door_write.specs.Read.{read_result};
 
 use crate::{Dependencies, Sizes, encode, parts};
 use door_rows::{bytes, scopes};

@@ -2,7 +2,6 @@
 -- buffers.
 use Rattle.std.specs.Prelude.{◌≡◌, true, false, List, ◌++◌, ◌↔◌, ℕ, length, drop, replicate}
 use Rattle.finite.specs.Lists.{tabulate}
-use Rattle.std.specs.declared.result.Result.{Result}
 use Rattle.std.specs.declared.result.Result.TheVariants.{Ok, Err}
 use Rattle.model.specs.declared.{CheckAnswer.CheckAnswer, FillAnswer.FillAnswer}
 use Rattle.model.specs.declared.DeriveAnswer.{DeriveAnswer}

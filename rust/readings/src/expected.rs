@@ -426,8 +426,8 @@ fn of_values(state: &mut State, name: &str, all: &[Argument]) -> Option<Told> {
         }
         (LOWEST_SHARED, [Number(a), Number(m), Number(b), Number(n)]) => {
             let lowest = (*a..a + m).find(|byte| (*b..b + n).contains(byte));
-            let answer = lowest.map(|byte| format!("At {byte}"));
-            Some(said(answer.unwrap_or_else(|| "Nothing".to_string())))
+            let answer = lowest.map(|byte| format!("Some {byte}"));
+            Some(said(answer.unwrap_or_else(|| "None".to_string())))
         }
         (SHARES, [Places(places), Number(scope), Number(a), Number(b)]) => Some(said(
             shares(places, *scope, *a as usize, *b as usize).to_string(),
@@ -463,13 +463,13 @@ fn written(state: &mut State, values: &Values, out: &[u8]) -> Told {
     }
 }
 
-/// A report with all of its counts, as its case of the enum.
+/// A report with all of its counts, as the page tells it.
 fn reported(answer: &ReportAnswer) -> String {
     match answer {
         ReportAnswer::Counts(counts) => match counts.share() {
-            None => "NoPairs".to_string(),
+            None => "no_pairs".to_string(),
             Some(share) => format!(
-                "Report {{{} {} {} {} {}}}",
+                "reported {{{} {} {} {} {}}}",
                 counts.conflicting,
                 counts.mutual,
                 counts.ordered,
@@ -478,17 +478,17 @@ fn reported(answer: &ReportAnswer) -> String {
             ),
         },
         ReportAnswer::Check(CheckAnswer::Refused { number, row }) => {
-            format!("Refused {number} {row}")
+            format!("refused {number} {row}")
         }
         ReportAnswer::Check(CheckAnswer::Cycle { rows, .. }) => {
-            format!("Cycle {}", rows.as_slice().len())
+            format!("cyclic {}", rows.as_slice().len())
         }
         ReportAnswer::Check(CheckAnswer::Overwritten {
             reader,
             writer,
             byte,
         }) => {
-            format!("Overwritten {reader} {writer} {byte}")
+            format!("overwritten {reader} {writer} {byte}")
         }
         ReportAnswer::Check(other) => panic!("a report that says {other}"),
     }

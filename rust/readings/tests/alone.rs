@@ -184,12 +184,12 @@ fn said(row: Row) -> String {
     let small: Vec<String> = row_bytes(row)[..8].iter().map(u8::to_string).collect();
     let (start, reference, rank, source) = (row.start, row.reference, row.rank, row.source);
     format!(
-        "Row {{{} {start} {reference} {rank}}} {{{source}}}",
+        "Some {{{{{} {start} {reference} {rank}}} {{{source}}}}}",
         small.join(" ")
     )
 }
 
-/// A reader gives the rows one after the other, and then the end for good.
+/// A reader gives the rows one after the other, and then none for good.
 #[test]
 fn readers_of_rows() {
     let count = with_room(|| {
@@ -207,7 +207,7 @@ fn readers_of_rows() {
                 let given = [table.clone(), Value::Number(step as u64)];
                 let told = told(&mut pages, "alone/Own.step", &given).unwrap();
                 let row = rows.get(step).map(|bytes| said(Row::from_bytes(bytes)));
-                let expected = row.unwrap_or_else(|| "End".to_string());
+                let expected = row.unwrap_or_else(|| "None".to_string());
                 assert_eq!(told, expected, "step {step}");
                 count += 1;
             }

@@ -235,3 +235,7 @@ finds_some n v (Some k) h e = let l = h.0 in let q = h.1 in omega arith
 pub finds_none : (n v : ℕ) (r : Option ℕ) → Finds n v r → is_some r ≡ false → v ≡ n
 finds_none n v None h e = h
 finds_none n v (Some k) h e = not_both refl e
+
+pub finds_test : (n v : ℕ) (r : Option ℕ) → Finds n v r → not (is_some r) ≡ eqb v n
+finds_test n v None h = sym (eq-eqb v n h)
+finds_test n v (Some k) h = let l = h.0 in let q = h.1 in sym (ne_eqb v n (λ e. omega arith))

@@ -21,8 +21,14 @@ fn read(file: impl AsRef<Path>) -> String {
 }
 
 fn source() -> String {
-    let files = ["stramashly/src/lib.rt", "stramashly/src/packed.rt", "stramashly_c/src/lib.rt"];
-    files.map(|file| read(Path::new("crates").join(file))).concat()
+    let files = [
+        "stramashly/src/lib.rt",
+        "stramashly/src/packed.rt",
+        "stramashly_c/src/lib.rt",
+    ];
+    files
+        .map(|file| read(Path::new("crates").join(file)))
+        .concat()
 }
 
 /// The text without `//` comments, its lines joined.

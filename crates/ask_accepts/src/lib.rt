@@ -15,16 +15,10 @@ ghost use Rattle.ask_accepts.specs.Judging.{leads_to};
 
 use model::{Reason, Refusal};
 use run::Run;
+use run_rows::moments::Ends;
 use run_rows::{cases, moments};
 
 pub mod sync; // M4 and M5, from the rows alone
-
-// Two moments of a table, of which the first is to come before the second.
-#[derive(Clone, Copy)]
-struct Ends {
-    pub first: u16,
-    pub second: u16,
-}
 
 // Whether the table has a moment m.
 fn is_there(t: &Run, m: u16) -> bool

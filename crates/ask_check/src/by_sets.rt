@@ -35,8 +35,7 @@ pub fn judge_located(t: &Run, src: &[u16], s: &[u64], w: &mut [u64], c: &mut [u1
         × Within EDGE LAYERS_END w.old w.new }
 {
     sets_edges::fill_edges(t, src, s, w);
-    let x = find_cycle::cycle_start(w, t.rows);
-    if x < t.rows {
+    if let Some(x) = find_cycle::cycle_start(w, t.rows) {
         let size = crate::show::show_cycle(t, src, x, w, c);
         return CheckAnswer::Cycle { rows: size as u16 };
     }

@@ -6,35 +6,21 @@ ghost use Rattle.model.specs.Check.{verdict, check_answer, cycle_after, wiped};
 ghost use Rattle.run.specs.Layout.{rows_in, table_of};
 ghost use Rattle.door_open.specs.Opened.{RunOf};
 ghost use Rattle.model_placing.specs.Judge.{Sourced};
-ghost use Rattle.sets_of_table.specs.Fit.{FitRun};
-ghost use Rattle.sets_edges.specs.Edges.{Sources};
-ghost use Rattle.find_axioms.specs.Sources.{source_in};
-ghost use Rattle.ask_check.specs.Engine.{Judges, Buffers};
+ghost use Rattle.ask_check.specs.Engine.{Buffers};
 ghost use Rattle.ask_check.specs.Whole.{Checked, CheckedBoth};
 
+use crate::engine::{ByFlags, BySets, Engine};
 use model::{CheckAnswer, Refusal};
 use run::Run;
 
-// The verdict on a run of n rows, by the engine by sets, or by the flags engine.
-fn judge_by(sets: bool, t: &Run, src: &[u16], w: &mut [u64], c: &mut [u16]) -> CheckAnswer
-    requires { FitRun t.now.bytes t.now.rows × Buffers CYCLE w.old c.old × Sources (table_of t.now) t.now.rows src.now }
-    ensures { Judges (table_of t.now) (source_in src.now) result
-        w.old w.new c.old c.new }
-{
-    if sets {
-        return crate::by_sets::judge(t, src, w, c);
-    }
-    crate::by_flags::judge(t, src, w, c)
-}
-
-// The same with the table's own sources; the work area's words end as zeros.
-fn judge_run(t: &Run, sets: bool, work: &mut [u64], cycle: &mut [u16]) -> CheckAnswer
+// The verdict by an engine, with the table's own sources; the work area's words end as zeros.
+fn judge_run<E: Engine>(t: &Run, work: &mut [u64], cycle: &mut [u16]) -> CheckAnswer
     requires { Buffers CYCLE work.old cycle.old × RunOf false t.now.bytes t.now.rows × Sourced (table_of t.now) (source_of (rows_in t.now.bytes)) }
     ensures { let v = verdict (table_of t.now) (source_of (rows_in t.now.bytes)) in
         (Ok result ≡ check_answer v) × (work.new ≡ wiped work.old) × (cycle.new ≡ cycle_after v cycle.old) }
 {
     let src = find_sources::sources::read_sources(t);
-    let r = judge_by(sets, t, &src, work, cycle);
+    let r = E::judge(t, &src, work, cycle);
     bits::clear(work, 0, model::WORK);
     r
 }
@@ -42,13 +28,12 @@ fn judge_run(t: &Run, sets: bool, work: &mut [u64], cycle: &mut [u16]) -> CheckA
 // Judges one recorded run in two pieces, the first a table, the second more rows for it; `chains` says whether the device reports
 // vulkanMemoryModelAvailabilityVisibilityChains. A short buffer is refusal 11; a table that is refused leaves both buffers alone. Otherwise
 // the work area's own part ends as zeros, and the cycle buffer holds the cycle if that is the answer.
-// Whichever of the two engines is asked, the answer is this one.
+// Whichever engine E is, the answer is this one.
 // Ruled out: one that judges the first piece alone; one that leaves the last customer's words in the work area.
-pub fn check_by(
+pub fn check_by<E: Engine>(
     first: &[u8],
     second: &[u8],
     chains: bool,
-    sets: bool,
     work: &mut [u64],
     cycle: &mut [u16],
 ) -> Result<CheckAnswer, Refusal>
@@ -64,11 +49,11 @@ pub fn check_by(
         work.len(),
         cycle.len(),
     )?;
-    Ok(judge_run(&t, sets, work, cycle))
+    Ok(judge_run::<E>(&t, work, cycle))
 }
 
 // The same, by sets of rows.
-// Ruled out: one that takes the pieces the other way round; one that turns the switch round.
+// Ruled out: one that takes the pieces the other way round; one that turns `chains` round.
 pub fn check_both(
     first: &[u8],
     second: &[u8],
@@ -79,7 +64,7 @@ pub fn check_both(
     ensures { CheckedBoth chains first.now second.now result
         work.old work.new cycle.old cycle.new }
 {
-    check_by(first, second, chains, true, work, cycle)
+    check_by::<BySets>(first, second, chains, work, cycle)
 }
 
 // Judges one recorded run in one piece.
@@ -105,5 +90,5 @@ pub fn check_by_flags(
 ) -> Result<CheckAnswer, Refusal>
     ensures { Checked chains table.now result work.old work.new cycle.old cycle.new }
 {
-    check_by(table, &table[..0], chains, false, work, cycle)
+    check_by::<ByFlags>(table, &table[..0], chains, work, cycle)
 }

@@ -13,17 +13,10 @@ ghost use Rattle.ask_derive.specs.Layers.{Asked};
 
 use model::{DeriveAnswer, Refusal};
 use run::Run;
-use run_rows::moments;
+use run_rows::moments::{self, Ends};
 
 pub mod chains; // the class set of a chain, and its steps as numbers
 pub mod layers; // the steps of a class set, and the layers of chains of them
-
-// Two moments of a table, of which the first is to come before the second.
-#[derive(Clone, Copy)]
-struct Ends {
-    pub first: u16,
-    pub second: u16,
-}
 
 // Refusal 12: whether each number names a moment of the table, and they are two.
 fn two_moments(t: &Run, first: u16, second: u16) -> bool

@@ -25,11 +25,10 @@ pub fn is_consistent(t: &Run, src: &[u16], w: &mut [u64]) -> bool
         × Within EDGE LAYERS_END w.old w.new }
 {
     find_axioms::edges::fill_edges(t, src, w);
-    let x = find_cycle::cycle_start(w, t.rows);
-    if x != t.rows {
+    if find_cycle::cycle_start(w, t.rows).is_some() {
         return false;
     }
-    find_axioms::overwritten::over_reader(t, src, w) == t.rows
+    find_axioms::overwritten::over_reader(t, src, w).is_none()
 }
 
 // Whether a check admits the sources, and the table with them is consistent.

@@ -26,8 +26,7 @@ fn is_consistent(t: &Run, src: &[u16], s: &[u64], w: &mut [u64]) -> bool
         × Within EDGE LAYERS_END w.old w.new }
 {
     sets_edges::fill_edges(t, src, s, w);
-    let x = find_cycle::cycle_start(w, t.rows);
-    if x != t.rows {
+    if find_cycle::cycle_start(w, t.rows).is_some() {
         return false;
     }
     sets_overwritten::first_overwrite(t, src, s, w).is_none()

@@ -7,17 +7,24 @@ use Prim.Native.Nat.{ℕ, ◌+◌, ◌*◌, ◌-◌, ◌/◌, ◌%◌, ◌<◌, 
 use native.Mathlib.Omega.{arith}
 use native.Mathlib.Decide.{dec_lt, ℕ_discrete}
 use lib.ListN.{length, get_or}
-use lib.Dec.{leb, eqb}
+use lib.Dec.{ltb, leb, eqb}
 use borrow.Author.Tests.{eqb-true, leb-true, eq-eqb, ne_eqb, lt-ltb, le-ltb, le-leb, lt-leb, not-false}
 use Rattle.finite.specs.Logic.{◌and◌, and_left, and_right, and_false_left, and_false_right, and_true, and_on, and_on_right, ◌or◌, or_left, or_none}
 use Rattle.finite.specs.Logic.{not_in, not_out, not_both, which}
 use Rattle.finite.specs.Below.{any_below, any_in, any_off, any_not, any_cong, least, least_is}
 use Rattle.model.specs.declared.Row.{Row}
+use Rattle.std.specs.declared.result.Result.{Result}
+use Rattle.std.specs.declared.result.Result.TheVariants.{Ok, Err}
+use Rattle.model.specs.declared.Fault.{Fault}
+use Rattle.model.specs.declared.Fault.TheVariants.{Short, Version, Limits, Length, Code, KindFit, Extent, Class, Source, Rank, Buffer, Moments, Room, Instance, Run, AgentKind, Dependencies, Dependency, AgentRow, OperationFit, Rows}
+use Rattle.std.specs.Prelude.{is_err}
+use Rattle.model.specs.Fault.{fault_number, number_of}
+use Rattle.model.specs.declared.Refusal.{Refusal}
 use Rattle.model.specs.declared.Admission.{Admission}
-use Rattle.model.specs.declared.Admission.TheVariants.{Admitted, Refused}
+use Rattle.model.specs.declared.Admission.TheVariants.{Refused}
 use Rattle.model.specs.Limits.{DEPENDENCIES, INITIAL, BLANK}
 use Rattle.model.specs.Row.{PLAIN_WRITE, ATOMIC_READ, ATOMIC_WRITE, RMW, BARRIER, CONTROL}
-use Rattle.model.specs.Row.{plain, atomic, access, barrier, control, plain_read, reads, ranked, operation, same_instance}
+use Rattle.model.specs.Row.{plain, atomic, access, barrier, control, plain_read, reads, ranked, same_instance}
 use Rattle.model.specs.Scope.{agent_kind, shares, same_location, mutual_rows}
 use Rattle.model.specs.Table.{Mode, Table, OFF, byte_of, pair_of, row_of, mode_of, decode, source_of}
 use Rattle.model.specs.Header.{HEADER, ROW_BYTES, pair_at}
@@ -27,8 +34,8 @@ use Rattle.model.specs.Refusal.{shape_or}
 use Rattle.model.specs.TableFault.{other_class, other_class_at, class_taken, writer_fits, source_fits, source_broken, same_rank, same_rank_at, rank_taken}
 use Rattle.model.specs.TableFault.{apart, apart_at, instance_broken, rival, outside, outside_at, begins, unfit}
 use Rattle.model.specs.Refusal.{kind_over, agents_known, dependencies_few, names_missing, dependencies_named, hosts_fault}
-use Rattle.model.specs.RowFault.{codes_fit, agent_fits, operation_fits, plain_fits, atomic_fits, barrier_fits, semantics_fit, bytes_fit, kind_fits, extent_fits}
-use Rattle.model.specs.Refusal.{faulty, first_fault, row_fault_at}
+use Rattle.model.specs.RowFault.{codes_fit, agent_fits, plain_fits, atomic_fits, barrier_fits, semantics_fit, bytes_fit, kind_fits}
+use Rattle.model.specs.Refusal.{refusal, admission_answer, faulty, first_fault, row_fault_at}
 use Rattle.model.specs.TableFault.{table_fault}
 use Rattle.model.specs.RowFault.{form_fault, row_fault}
 use Rattle.model.specs.Refusal.{version_fits, limits_fit, length_fits, header_fault, admission}
@@ -36,7 +43,7 @@ use Rattle.door_rows.specs.Starts.{starts_apart}
 use Rattle.door_rows.specs.Instances.{of_instance}
 use Rattle.door_rows.specs.Places.{IsPlace}
 use Rattle.model.specs.Refusal.{shape_fault}
-use Rattle.door_admit.specs.Rows.{hosts_fault_in, row_fault_in, ranks, rows_admission, of_reference, outside_in}
+use Rattle.door_admit.specs.Rows.{hosts_fault_in, first_refused, row_fault_in, ranks, rows_admission, of_reference, outside_in}
 
 -- ---- two bytes of row j, by the last and by the first
 
@@ -395,22 +402,6 @@ module _ (r : Row) (source : ℕ) (x : Bool) (ex : x ≡ plain r) where
   unfolding kind_fits ◌and◌ ◌or◌
   kind_other h = rw (← ex, h) refl
 
--- ---- 20, or 6 and 7
-
-module _ (r : Row) (source : ℕ) (operating : Bool) (eo : operating ≡ operation r) where
-  pub form_operation : (fits : Bool) (v : ℕ) → operating ≡ true → fits ≡ operation_fits r source → v ≡ cond fits 0 20 → v ≡ form_fault r source
-  unfolding form_fault
-  form_operation fits v h e q = rw (← eo, h, ← e) q
-
-  module _ (h : operating ≡ false) (kind : Bool) (ek : kind ≡ kind_fits r source) where
-    pub form_kind : not kind ≡ true → 6 ≡ form_fault r source
-    unfolding form_fault
-    form_kind k = rw (← eo, h, ← ek, not_out kind k) refl
-
-    pub form_extent : (extent : Bool) (v : ℕ) → not kind ≡ false → extent ≡ extent_fits r → v ≡ cond extent 0 7 → v ≡ form_fault r source
-    unfolding form_fault
-    form_extent extent v k e q = rw (← eo, h, ← ek, not-false kind k, ← e) q
-
 -- ---- 5, 19, and what comes after them
 
 module _ (hosts : Bool) (p : List (List ℕ)) (agents : ℕ) (r : Row) (source : ℕ) (codes : Bool) (ec : codes ≡ codes_fit hosts agents r) where
@@ -478,6 +469,39 @@ module _ (s : List ℕ) where
   pub shape_passed : (h : ℕ) → h ≡ shape_fault s → h ≡ 0 → header_fault s ≡ hosts_fault s
   shape_passed h e f = rw (header_is, ← e, eq-eqb h 0 f) refl
 
+-- ---- a fault has a number
+
+pub fault_counts : (fault : Fault) → fault_number fault ≡ 0 → ⊥
+fault_counts Short e = absurd (omega (arith, e))
+fault_counts Version e = absurd (omega (arith, e))
+fault_counts Limits e = absurd (omega (arith, e))
+fault_counts Length e = absurd (omega (arith, e))
+fault_counts Code e = absurd (omega (arith, e))
+fault_counts KindFit e = absurd (omega (arith, e))
+fault_counts Extent e = absurd (omega (arith, e))
+fault_counts Class e = absurd (omega (arith, e))
+fault_counts Source e = absurd (omega (arith, e))
+fault_counts Rank e = absurd (omega (arith, e))
+fault_counts Buffer e = absurd (omega (arith, e))
+fault_counts Moments e = absurd (omega (arith, e))
+fault_counts Room e = absurd (omega (arith, e))
+fault_counts Instance e = absurd (omega (arith, e))
+fault_counts Run e = absurd (omega (arith, e))
+fault_counts AgentKind e = absurd (omega (arith, e))
+fault_counts Dependencies e = absurd (omega (arith, e))
+fault_counts Dependency e = absurd (omega (arith, e))
+fault_counts AgentRow e = absurd (omega (arith, e))
+fault_counts OperationFit e = absurd (omega (arith, e))
+fault_counts Rows e = absurd (omega (arith, e))
+
+pub fault_found : (r : Result Unit Fault) → is_err r ≡ true → number_of r ≡ 0 → ⊥
+fault_found (Ok u) h = not_both h refl
+fault_found (Err fault) h = fault_counts fault
+
+pub fault_missed : (r : Result Unit Fault) → is_err r ≡ false → number_of r ≡ 0
+fault_missed (Ok u) h = refl
+fault_missed (Err fault) h = not_both refl h
+
 -- ---- the number r of row i says whether it has a fault
 
 module _ (f : ℕ → ℕ) (i r : ℕ) where
@@ -488,25 +512,6 @@ module _ (f : ℕ → ℕ) (i r : ℕ) where
   pub fault_none : r ≡ f i → r ≡ 0 → faulty f i ≡ false
   unfolding faulty
   fault_none e h = rw (← e, eq-eqb r 0 h) refl
-
--- ---- the cascade of 8 to 10, 14 and 15, from the inside
-
-module _ (blanks : Bool) (b : List ℕ) (p : List (List ℕ)) (mode : Mode) (n i : ℕ) (class source rank instance run : Bool) (v w x y z : ℕ) where
-  pub table_numbers :
-      run ≡ unfit (decode b [] mode 0) i → v ≡ cond run 15 0
-      → instance ≡ instance_broken (decode b p OFF 0) i → w ≡ cond instance 14 v
-      → rank ≡ rank_taken (decode b p OFF 0) i → x ≡ cond rank 10 w
-      → source ≡ source_broken blanks (decode b [] OFF n) (source_of b) i → y ≡ cond source 9 x
-      → class ≡ class_taken (decode b [] OFF 0) i → z ≡ cond class 8 y
-      → z ≡ table_fault blanks (decode b p mode n) (source_of b) i
-  unfolding table_fault
-  table_numbers e1 f1 e2 f2 e3 f3 e4 f4 e5 f5 =
-      let q1 = e1 ∙ unfit_any b p mode n i in
-      let q2 = e2 ∙ instance_any b p mode n i in
-      let q3 = e3 ∙ rank_any b p mode n i in
-      let q4 = e4 ∙ source_any b p mode n blanks i in
-      let q5 = e5 ∙ class_any b p mode n i in
-      rw (← q1, ← q2, ← q3, ← q4, ← q5) (f5 ∙ rw (f4, f3, f2, f1) refl)
 
 -- ---- before the first row that has a refusal 8 to 10, 14 or 15 none has refusal 8
 
@@ -526,33 +531,67 @@ module _ (blanks : Bool) (b : List ℕ) (p : List (List ℕ)) (mode : Mode) (n :
           class_any b p mode n k
           ∙ ⊎_elim (λ t. not_both (class_fault k t) ((least_is (faulty among) m).miss k (rw e at l))) (λ f. f) (which (class_taken (decode b p mode n) k))
 
--- ---- i is the first faulty row of n
+-- ---- an Ok is no Err
 
-module _ (f : ℕ → ℕ) (n : ℕ) (next : Admission) (i : ℕ) (e : i ≡ least n (faulty f)) where
-  first_hit : (r : ℕ) → i < n → r ≡ f i → first_fault f n next ≡ Refused r i
-  unfolding first_fault
-  first_hit r h q = rw (← e, lt-ltb i n h, q) refl
+not_err : {A : Type 0} {x : Refusal} → ◌≡◌ {A = Result Unit Refusal} (Ok tt) (Err x) → A
+not_err e = let z : ◌≡◌ {A = ℕ} 0 1 = ap which_one e in absurd (omega arith)
+  where
+    which_one : Result Unit Refusal → ℕ
+    which_one (Ok u) = 0
+    which_one (Err x) = 1
 
-  first_miss : n ≤ i → first_fault f n next ≡ next
-  unfolding first_fault
-  first_miss h = rw (← e, le-ltb i n h) refl
+refusal_in : Result Unit Refusal → Refusal
+refusal_in (Ok u) = refusal 0 0
+refusal_in (Err x) = x
 
--- ---- the rows' admission: i is the first row that is faulty by itself, j the first among the others
+-- ---- the first faulty row of n
 
-module _ (blanks hosts : Bool) (agents : ℕ) (b : List ℕ) (p : List (List ℕ)) (counted : Bool) (n i : ℕ)
-    (e : i ≡ least n (faulty (row_fault_in hosts p agents b))) where
-  pub rows_early : (r : ℕ) → i < n → r ≡ row_fault_in hosts p agents b i → rows_admission blanks hosts agents b p counted n ≡ Refused r i
+module _ (f : ℕ → ℕ) (n : ℕ) where
+  pub refused_here : (i : ℕ) → least n (faulty f) ≡ i → i < n → first_refused f n ≡ Err (refusal (f i) i)
+  unfolding first_refused
+  refused_here i e h = rw (e, lt-ltb i n h) refl
+
+  pub refused_none : least n (faulty f) ≡ n → first_refused f n ≡ Ok tt
+  unfolding first_refused
+  refused_none e = rw (e, le-ltb n n (omega arith)) refl
+
+  -- an admission that begins with these faults
+  first_hit : (next : Admission) {x : Refusal} → first_refused f n ≡ Err x → admission_answer (first_fault f n next) ≡ Err x
+  unfolding first_refused first_fault admission_answer refusal_in
+  first_hit next e = go (ltb (least n (faulty f)) n) e
+    where
+      go : (b : Bool) {x : Refusal} → cond b (Err (refusal (f (least n (faulty f))) (least n (faulty f)))) (Ok (tt {0})) ≡ Err x
+          → admission_answer (cond b (Refused (f (least n (faulty f))) (least n (faulty f))) next) ≡ Err x
+      go true q = ap Err (ap refusal_in q)
+      go false q = not_err q
+
+  first_miss : (next : Admission) → first_refused f n ≡ Ok tt → first_fault f n next ≡ next
+  unfolding first_refused first_fault
+  first_miss next e = go (ltb (least n (faulty f)) n) e
+    where
+      go : (b : Bool) → cond b (Err (refusal (f (least n (faulty f))) (least n (faulty f)))) (Ok (tt {0})) ≡ Ok (tt {0})
+          → cond b (Refused (f (least n (faulty f))) (least n (faulty f))) next ≡ next
+      go true q = not_err (sym q)
+      go false q = refl
+
+-- ---- the rows' admission: rows that are faulty by themselves, then those that are among the others
+
+module _ (blanks hosts : Bool) (agents : ℕ) (b : List ℕ) (p : List (List ℕ)) (counted : Bool) (n : ℕ) where
+  pub rows_early : {x : Refusal} → first_refused (row_fault_in hosts p agents b) n ≡ Err x
+      → admission_answer (rows_admission blanks hosts agents b p counted n) ≡ Err x
   unfolding rows_admission
-  rows_early r h q = first_hit _ n _ i e r h q
+  rows_early e = first_hit _ n _ e
 
-  module _ (j : ℕ) (h : n ≤ i) (f : j ≡ least n (faulty (among blanks b p (ranks counted) n))) where
-    pub rows_late : (r : ℕ) → j < n → r ≡ among blanks b p (ranks counted) n j → rows_admission blanks hosts agents b p counted n ≡ Refused r j
+  module _ (e : first_refused (row_fault_in hosts p agents b) n ≡ Ok tt) where
+    pub rows_late : {x : Refusal} → first_refused (among blanks b p (ranks counted) n) n ≡ Err x
+        → admission_answer (rows_admission blanks hosts agents b p counted n) ≡ Err x
     unfolding rows_admission
-    rows_late r l q = first_miss _ n _ i e h ∙ first_hit _ n _ j f r l q
+    rows_late h = ap admission_answer (first_miss _ n _ e) ∙ first_hit _ n _ h
 
-    pub rows_pass : n ≤ j → rows_admission blanks hosts agents b p counted n ≡ Admitted agents n
-    unfolding rows_admission
-    rows_pass l = first_miss _ n _ i e h ∙ first_miss _ n _ j f l
+    pub rows_pass : first_refused (among blanks b p (ranks counted) n) n ≡ Ok tt
+        → admission_answer (rows_admission blanks hosts agents b p counted n) ≡ Ok (record { agents = agents; rows = n })
+    unfolding rows_admission admission_answer
+    rows_pass h = ap admission_answer (first_miss _ n _ e ∙ first_miss _ n _ h)
 
 -- ---- the header's refusal, and the rows' where it has none
 

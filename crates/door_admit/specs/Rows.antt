@@ -1,14 +1,17 @@
 -- The parts of an admission: 16 to 18 over places and dependencies, and what comes after them, over the bytes of the rows alone.
-use Rattle.std.specs.Prelude.{Bool, false, not, cond, List, [], ℕ, leb, eqb}
+use Rattle.std.specs.Prelude.{Bool, false, not, cond, List, [], ℕ, ltb, leb, eqb}
 use Rattle.finite.specs.Logic.{◌and◌}
-use Rattle.finite.specs.Below.{any_below}
+use Rattle.finite.specs.Below.{any_below, least}
+use Rattle.std.specs.declared.result.Result.{Result}
+use Rattle.std.specs.declared.result.Result.TheVariants.{Ok, Err}
 use Rattle.model.specs.declared.Row.{Row}
 use Rattle.model.specs.declared.Admission.{Admission}
 use Rattle.model.specs.declared.Admission.TheVariants.{Admitted}
+use Rattle.model.specs.declared.Refusal.{Refusal}
 use Rattle.model.specs.Limits.{DEPENDENCIES}
 use Rattle.model.specs.Row.{access}
 use Rattle.model.specs.Table.{Mode, row_of, source_of, dependency_count, decode}
-use Rattle.model.specs.Refusal.{kind_over, names_missing, first_fault}
+use Rattle.model.specs.Refusal.{refusal, kind_over, names_missing, faulty, first_fault}
 use Rattle.model.specs.TableFault.{outside, table_fault}
 use Rattle.model.specs.RowFault.{row_fault}
 
@@ -18,6 +21,10 @@ hosts_fault_in p agents d n =
     cond (not (any_below agents (kind_over p)))
     (cond (leb (dependency_count d) DEPENDENCIES) (cond (not (any_below (dependency_count d) (names_missing d n))) 0 18) 17)
     16
+
+-- the first row below n that f gives a number, refused
+unfoldable pub first_refused : (ℕ → ℕ) → ℕ → Result Unit Refusal
+first_refused f n = let i = least n (faulty f) in cond (ltb i n) (Err (refusal (f i) i)) (Ok tt)
 
 -- the fault of row i by itself, in the bytes b of the rows
 unfoldable pub row_fault_in : Bool → List (List ℕ) → ℕ → List ℕ → ℕ → ℕ

@@ -4,10 +4,11 @@ ghost use Rattle.finite.specs.Below.{any_below};
 ghost use Rattle.model.specs.Table.{dependency_count};
 ghost use Rattle.model.specs.Header.{size_of};
 ghost use Rattle.model.specs.Refusal.{version_fits, limits_fit, length_fits, kind_over, names_missing, header_fault, shape_fault};
+ghost use Rattle.model.specs.Fault.{number_of};
 ghost use Rattle.door_admit.specs.Rows.{hosts_fault_in};
 
-use door_rows::{bytes, pick, scopes};
-use model::Places;
+use door_rows::{bytes, scopes};
+use model::{Fault, Places};
 
 pub fn version_fits(s: &[u8]) -> bool
     ensures { result ≡ version_fits s.now }
@@ -84,44 +85,50 @@ fn any_names_none(d: &[u8], rows: u8) -> bool
     false
 }
 
-// Refusals 16 to 18, or 0, of so many agents with these places, and of the dependencies in their bytes, among so many rows. More
+// Refusals 16 to 18 of so many agents with these places, and of the dependencies in their bytes, among so many rows. More
 // dependencies than there may be are not looked at.
 // Ruled out: 65 dependencies of which one names no row get 18; a dependency whose second row alone is there passes.
-pub fn hosts_fault(p: Places, agents: u8, d: &[u8], rows: u8) -> u8
-    ensures { result ≡ hosts_fault_in p agents d.now rows }
+pub fn hosts_fault(p: Places, agents: u8, d: &[u8], rows: u8) -> Result<(), Fault>
+    ensures { number_of result ≡ hosts_fault_in p agents d.now rows }
 {
     if any_kind_over(p, agents) {
-        return 16;
+        return Err(Fault::AgentKind);
     }
     if model::DEPENDENCIES < bytes::pair_at(d, 0) as usize {
-        return 17;
+        return Err(Fault::Dependencies);
     }
     if any_names_none(d, rows) {
-        return 18;
+        return Err(Fault::Dependency);
     }
-    0
+    Ok(())
 }
 
-// Refusals 1 to 4, or 0.
+// Refusals 1 to 4.
 // Ruled out: a table that is longer than bytes 0 to 3 tell passes; a table of four bytes, whose version reads as 0, gets 2
 // and not 1.
-pub fn shape_fault(s: &[u8]) -> u8
-    ensures { result ≡ shape_fault s.now }
+pub fn shape_fault(s: &[u8]) -> Result<(), Fault>
+    ensures { number_of result ≡ shape_fault s.now }
 {
-    let sized = pick::either(length_fits(s), 0, 4);
-    let limited = pick::either(limits_fit(s), sized, 3);
-    let marked = pick::either(version_fits(s), limited, 2);
-    pick::either(bytes::HEADER <= s.len(), marked, 1)
+    if s.len() < bytes::HEADER {
+        return Err(Fault::Short);
+    }
+    if !version_fits(s) {
+        return Err(Fault::Version);
+    }
+    if !limits_fit(s) {
+        return Err(Fault::Limits);
+    }
+    if !length_fits(s) {
+        return Err(Fault::Length);
+    }
+    Ok(())
 }
 
-// Refusals 1 to 4 and 16 to 18, or 0.
-pub fn header_fault(s: &[u8]) -> u8
-    ensures { result ≡ header_fault s.now }
+// Refusals 1 to 4 and 16 to 18.
+pub fn header_fault(s: &[u8]) -> Result<(), Fault>
+    ensures { number_of result ≡ header_fault s.now }
 {
-    let shape = shape_fault(s);
-    if shape != 0 {
-        return shape;
-    }
+    shape_fault(s)?;
     let p = scopes::read_places(s);
     let d = bytes::dependency_bytes(s);
     hosts_fault(p, bytes::agents_at(s), d, bytes::rows_at(s))

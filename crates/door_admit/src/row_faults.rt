@@ -1,13 +1,12 @@
 // Refusals 5 to 7, 19 and 20: a row by itself.
 ghost use Rattle.std.specs.Prelude.{◌≡◌};
-ghost use Rattle.finite.specs.Below.{least};
 ghost use Rattle.model.specs.RowFault.{codes_fit, plain_fits, atomic_fits, barrier_fits, semantics_fit, bytes_fit, kind_fits, atomic_extent_fits, extent_fits};
-ghost use Rattle.model.specs.Refusal.{faulty};
+ghost use Rattle.model.specs.Fault.{number_of};
 ghost use Rattle.model.specs.RowFault.{agent_fits, operation_fits, form_fault, row_fault};
-ghost use Rattle.door_admit.specs.Rows.{row_fault_in};
+ghost use Rattle.door_admit.specs.Rows.{row_fault_in, first_refused};
 
 use door_rows::{bytes, kinds, pick, scopes};
-use model::{Places, Row, Source};
+use model::{Fault, Places, Refusal, Row, Source};
 
 pub const CLASSES: u8 = 15;
 
@@ -147,51 +146,75 @@ pub fn extent_fits(r: Row) -> bool
         & (!kinds::is_atomic(r) | atomic_extent_fits(r))
 }
 
-// 20 of an operation, 6 and 7 of any other row, or 0.
-pub fn form_fault(r: Row, source: Source) -> u8
-    ensures { result ≡ form_fault r source.0 }
+// 20 of an operation, 6 and 7 of any other row.
+pub fn form_fault(r: Row, source: Source) -> Result<(), Fault>
+    ensures { number_of result ≡ form_fault r source.0 }
 {
     if kinds::is_operation(r) {
-        return pick::either(operation_fits(r, source), 0, 20);
+        if !operation_fits(r, source) {
+            return Err(Fault::OperationFit);
+        }
+        return Ok(());
     }
     if !kind_fits(r, source) {
-        return 6;
+        return Err(Fault::KindFit);
     }
-    pick::either(extent_fits(r), 0, 7)
+    if !extent_fits(r) {
+        return Err(Fault::Extent);
+    }
+    Ok(())
 }
 
-// Refusals 5, 19, 6 or 20, 7 of a row, or 0. Places are lent, since all of them by value would be copied.
+// Refusals 5, 19, 6 or 20, 7 of a row. Places are lent, since all of them by value would be copied.
 // Ruled out: a barrier of class 4 gets 6, though 5 comes first; an access passes that goes on past the last byte, or an
 // atomic of 8 bytes that starts at a multiple of 4.
-pub fn row_fault(hosts: bool, p: &[[u16; 4]], agents: u8, r: Row, source: Source) -> u8
-    ensures { result ≡ row_fault hosts p.now agents r source.0 }
+pub fn row_fault(
+    hosts: bool,
+    p: &[[u16; 4]],
+    agents: u8,
+    r: Row,
+    source: Source,
+) -> Result<(), Fault>
+    ensures { number_of result ≡ row_fault hosts p.now agents r source.0 }
 {
     if !codes_fit(hosts, agents, r) {
-        return 5;
+        return Err(Fault::Code);
     }
     let x = scopes::place_in(p, r.agent);
     if !agent_fits(x[3], r) {
-        return 19;
+        return Err(Fault::AgentRow);
     }
     form_fault(r, source)
 }
 
-pub fn row_fault_at(rows: &[u8], hosts: bool, p: &[[u16; 4]], agents: u8, i: u16) -> u8
-    ensures { result ≡ row_fault_in hosts p.now agents rows.now i }
+pub fn row_fault_at(
+    rows: &[u8],
+    hosts: bool,
+    p: &[[u16; 4]],
+    agents: u8,
+    i: u16,
+) -> Result<(), Fault>
+    ensures { number_of result ≡ row_fault_in hosts p.now agents rows.now i }
 {
     let r = bytes::read_row(rows, i);
     row_fault(hosts, p, agents, r, bytes::read_source(rows, i))
 }
 
-// The first of n rows that has a refusal of its own; n where none has.
+// The first of n rows that has a refusal of its own is refused for it.
 // Ruled out: a later faulty row than the first; a fault in bytes past the n rows.
-pub fn first_row_fault(rows: &[u8], hosts: bool, p: Places, agents: u8, n: u16) -> u16
-    ensures { result ≡ least n (faulty (row_fault_in hosts p agents rows.now)) }
+pub fn first_row_fault(
+    rows: &[u8],
+    hosts: bool,
+    p: Places,
+    agents: u8,
+    n: u16,
+) -> Result<(), Refusal>
+    ensures { result ≡ first_refused (row_fault_in hosts p agents rows.now) n }
 {
     for i in 0..n {
-        if row_fault_at(rows, hosts, &p, agents, i) != 0 {
-            return i;
+        if let Err(fault) = row_fault_at(rows, hosts, &p, agents, i) {
+            return Err(Refusal::at(fault, i));
         }
     }
-    n
+    Ok(())
 }

@@ -2,19 +2,19 @@
 // A test that reads no place is stated of a table with none, one that reads no mode of one that is OFF, and one that reads no
 // number of rows of a table of 0: what is left out makes no difference to it.
 ghost use Rattle.std.specs.Prelude.{◌≡◌, false, [], ◌<◌, eqb};
-ghost use Rattle.finite.specs.Below.{any_below, least};
+ghost use Rattle.finite.specs.Below.{any_below};
 ghost use Rattle.model.specs.Row.{CONTROL};
 ghost use Rattle.model.specs.Scope.{mutual_rows};
 ghost use Rattle.model.specs.Table.{pair_of, row_of, OFF, decode, source_of};
 ghost use Rattle.model.specs.Header.{ROW_BYTES};
 ghost use Rattle.model.specs.TableFault.{other_class_at, class_taken, writer_fits, source_fits, source_broken};
 ghost use Rattle.model.specs.TableFault.{same_rank, same_rank_at, rank_taken, apart_at, instance_broken};
-ghost use Rattle.model.specs.Refusal.{faulty};
+ghost use Rattle.model.specs.Fault.{number_of};
 ghost use Rattle.model.specs.TableFault.{rival, outside, begins, unfit, table_fault};
-ghost use Rattle.door_admit.specs.Rows.{ranks, of_reference, outside_in};
+ghost use Rattle.door_admit.specs.Rows.{ranks, first_refused, of_reference, outside_in};
 
-use door_rows::{bytes, kinds, pick, scopes};
-use model::{Places, Row, Source};
+use door_rows::{bytes, kinds, scopes};
+use model::{Fault, Places, Refusal, Row, Source};
 
 // ---- two bytes of a row
 
@@ -289,29 +289,53 @@ pub fn is_unfit(rows: &[u8], counted: bool, i: u16, r: Row) -> bool
 
 // ---- in their order
 
-// Refusals 8 to 10, 14 and 15 of row i, or 0. No earlier row has refusal 8.
+// Refusals 8 to 10, 14 and 15 of row i. No earlier row has refusal 8.
 // Ruled out: of two rows of one rank the earlier is refused; a row passes that reads from itself.
-pub fn table_fault(rows: &[u8], p: Places, counted: bool, n: u16, blanks: bool, i: u16) -> u8
+pub fn table_fault(
+    rows: &[u8],
+    p: Places,
+    counted: bool,
+    n: u16,
+    blanks: bool,
+    i: u16,
+) -> Result<(), Fault>
     requires { any_below i (class_taken (decode rows.now [] OFF 0)) ≡ false }
-    ensures { result ≡ table_fault blanks (decode rows.now p (ranks counted) n) (source_of rows.now) i }
+    ensures { number_of result ≡ table_fault blanks (decode rows.now p (ranks counted) n) (source_of rows.now) i }
 {
     let r = bytes::read_row(rows, i);
-    let run = pick::either(is_unfit(rows, counted, i, r), 15, 0);
-    let instance = pick::either(instance_broken(rows, p, i, r), 14, run);
-    let rank = pick::either(rank_taken(rows, p, i, r), 10, instance);
-    let source = pick::either(source_broken(rows, n, blanks, i, r), 9, rank);
-    pick::either(class_taken(rows, i, r), 8, source)
+    if class_taken(rows, i, r) {
+        return Err(Fault::Class);
+    }
+    if source_broken(rows, n, blanks, i, r) {
+        return Err(Fault::Source);
+    }
+    if rank_taken(rows, p, i, r) {
+        return Err(Fault::Rank);
+    }
+    if instance_broken(rows, p, i, r) {
+        return Err(Fault::Instance);
+    }
+    if is_unfit(rows, counted, i, r) {
+        return Err(Fault::Run);
+    }
+    Ok(())
 }
 
-// The first of n rows that has a refusal 8 to 10, 14 or 15; n where none has.
+// The first of n rows that has a refusal 8 to 10, 14 or 15 is refused for it.
 // Ruled out: row 5's refusal 8 is given before row 2's refusal 10; row 0 is not tried.
-pub fn first_table_fault(rows: &[u8], p: Places, counted: bool, n: u16, blanks: bool) -> u16
-    ensures { result ≡ least n (faulty (table_fault blanks (decode rows.now p (ranks counted) n) (source_of rows.now))) }
+pub fn first_table_fault(
+    rows: &[u8],
+    p: Places,
+    counted: bool,
+    n: u16,
+    blanks: bool,
+) -> Result<(), Refusal>
+    ensures { result ≡ first_refused (table_fault blanks (decode rows.now p (ranks counted) n) (source_of rows.now)) n }
 {
     for i in 0..n {
-        if table_fault(rows, p, counted, n, blanks, i) != 0 {
-            return i;
+        if let Err(fault) = table_fault(rows, p, counted, n, blanks, i) {
+            return Err(Refusal::at(fault, i));
         }
     }
-    n
+    Ok(())
 }

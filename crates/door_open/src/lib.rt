@@ -11,7 +11,7 @@ ghost use Rattle.door_open.specs.Laid.{Put, Laid, head_of, place_byte, place_cou
 ghost use Rattle.door_open.specs.Opened.{Opens, Enters};
 
 use door_rows::{bytes, pick};
-use model::{Counts, Refusal};
+use model::{Counts, Fault, Refusal};
 use run::Run;
 
 // The bytes of all dependencies, and of all rows, that there may be.
@@ -118,15 +118,9 @@ fn enter_into(
         × Opens needs blanks chains first.now second.now work buffer result t.new }
 {
     if !((model::WORK <= work) & (needs <= buffer)) {
-        return Err(Refusal { number: 11, row: 0 });
+        return Err(Fault::Buffer.into());
     }
-    let fault = door_pieces::early_fault(first, second);
-    if fault != 0 {
-        return Err(Refusal {
-            number: fault,
-            row: 0,
-        });
-    }
+    door_pieces::early_fault(first, second)?;
     lay(first, second, t);
     let a = admit(first, second, t, blanks);
     t[2] = pick::either(chains, 1, 0);

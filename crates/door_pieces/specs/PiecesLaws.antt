@@ -409,6 +409,10 @@ module _ (f s : List ℕ) (h : ℕ) (e : h ≡ early_fault f s) (z : h ≡ 0) wh
   early_passed blanks = of_joined f s early_pieces Refused (admission blanks) ∙ joined_passed f s early_pieces blanks early_hosts
 
 -- the number before 5, as code finds it
+pub pieces_first : (f s : List ℕ) (h : ℕ) → h ≡ shape_fault f → (h ≡ 0 → ⊥) → h ≡ pieces_fault f s
+unfolding pieces_fault
+pieces_first f s h e n = rw (← e, ne_eqb h 0 n) refl
+
 pub early_first : (f s : List ℕ) (h : ℕ) → h ≡ pieces_fault f s → (h ≡ 0 → ⊥) → h ≡ early_fault f s
 unfolding early_fault
 early_first f s h e n = rw (← e, ne_eqb h 0 n) refl

@@ -3,10 +3,12 @@
 #![tactic(auto)]
 
 ghost use Rattle.std.specs.Prelude.{◌≡◌};
+ghost use Rattle.model.specs.Fault.{number_of};
 ghost use Rattle.door_pieces.specs.Pieces.{rows_both, count_both, pieces_fault, early_fault, row_part, row_place};
 
 use door_admit::header;
-use door_rows::{bytes, pick, scopes};
+use door_rows::{bytes, scopes};
+use model::Fault;
 
 // ---- the refusals of a pair
 
@@ -28,26 +30,27 @@ pub fn count_both(first: &[u8], second: &[u8]) -> u8
     n as u8
 }
 
-// Refusals 1 to 4 of the first piece, 40 of the second, and 3 of both; or 0.
+// Refusals 1 to 4 of the first piece, 40 of the second, and 3 of both.
 // Ruled out: a first piece of another version whose second piece isn't whole rows gets 40; 15 bytes pass as no row.
-pub fn pieces_fault(first: &[u8], second: &[u8]) -> u8
-    ensures { result ≡ pieces_fault first.now second.now }
+pub fn pieces_fault(first: &[u8], second: &[u8]) -> Result<(), Fault>
+    ensures { number_of result ≡ pieces_fault first.now second.now }
 {
-    let limited = pick::either(rows_both(first, second) <= model::ROWS, 0, 3);
-    let whole = pick::either(second.len() % bytes::ROW_BYTES == 0, limited, 40);
-    let fault = header::shape_fault(first);
-    pick::either(fault == 0, whole, fault)
+    header::shape_fault(first)?;
+    if second.len() % bytes::ROW_BYTES != 0 {
+        return Err(Fault::Rows);
+    }
+    if model::ROWS < rows_both(first, second) {
+        return Err(Fault::Limits);
+    }
+    Ok(())
 }
 
-// Every refusal before 5, or 0. The dependencies stand in the first piece and may name rows of either.
+// Every refusal before 5. The dependencies stand in the first piece and may name rows of either.
 // Ruled out: one that counts the agents by the second piece; one that holds dependencies to the first piece's rows, counted twice.
-pub fn early_fault(first: &[u8], second: &[u8]) -> u8
-    ensures { result ≡ early_fault first.now second.now }
+pub fn early_fault(first: &[u8], second: &[u8]) -> Result<(), Fault>
+    ensures { number_of result ≡ early_fault first.now second.now }
 {
-    let fault = pieces_fault(first, second);
-    if fault != 0 {
-        return fault;
-    }
+    pieces_fault(first, second)?;
     let p = scopes::read_places(first);
     let d = bytes::dependency_bytes(first);
     let n = rows_both(first, second);
@@ -62,7 +65,7 @@ pub fn early_fault(first: &[u8], second: &[u8]) -> u8
 pub fn row_part<'a>(first: &'a [u8], second: &'a [u8], n: u16) -> &'a [u8]
     ensures { result.now ≡ row_part first.now second.now n }
 {
-    if early_fault(first, second) != 0 {
+    if early_fault(first, second).is_err() {
         return &first[..0];
     }
     let i = n as usize;

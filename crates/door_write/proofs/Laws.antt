@@ -26,7 +26,7 @@ use Rattle.model.specs.declared.Entry.{Entry}
 use Rattle.door_write.specs.declared.Dependencies.{Dependencies}
 use Rattle.door_write.specs.Answer.{WriteAnswer}
 use Rattle.door_write.specs.Answer as Answer
-use Rattle.door_write.specs.Encode.{half, with_hosts, places_size, dependencies_size, table_size, header_list, number_of, place_number, place_byte, row_list}
+use Rattle.door_write.specs.Encode.{half, with_hosts, places_size, dependencies_size, table_size, header_list, number_of, place_byte, row_list}
 use Rattle.door_write.specs.Encode.{nothing, entry_at, entry_byte, dependency_number, dependency_byte, places_part, rows_part, dependencies_part, encode}
 use Rattle.door_write.specs.Encode.{entries_in, entries_of, dependencies_of}
 use Rattle.door_write.specs.Answer.{values_fault, room_answer, write_answer, write_result, buffer_after}

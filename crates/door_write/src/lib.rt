@@ -3,12 +3,13 @@
 
 ghost use Rattle.std.specs.Prelude.{◌≡◌, length};
 ghost use Rattle.finite.specs.Below.{any_below};
+ghost use Rattle.model.specs.Fault.{number_of};
 ghost use Rattle.door_write.specs.Encode.{encode};
 ghost use Rattle.door_write.specs.Answer.{version_known, counts_fit, number_over, dependencies_fit, values_fault, write_answer, buffer_after};
 ghost use Rattle.door_write.specs.Answer.{write_result};
 
-use door_rows::{bytes, pick, scopes};
-use model::{Entry, Places, Refusal};
+use door_rows::{bytes, scopes};
+use model::{Entry, Fault, Places, Refusal};
 
 pub mod encode; // the bytes of a table
 pub mod parts; // values out of lent parts
@@ -80,15 +81,24 @@ fn dependencies_fit(version: u8, n: u16) -> bool
     n <= 0
 }
 
-// Refusals 2, 3, 16 and 17, or 0.
+// Refusals 2, 3, 16 and 17.
 // Ruled out: 65 dependencies of which one names no row get 18; a host agent passes in version 2.
-fn values_fault(version: u8, agents: u8, p: Places, rows: u8, n: u16) -> u8
-    ensures { result ≡ values_fault version agents p rows n }
+fn values_fault(version: u8, agents: u8, p: Places, rows: u8, n: u16) -> Result<(), Fault>
+    ensures { number_of result ≡ values_fault version agents p rows n }
 {
-    let few = pick::either(dependencies_fit(version, n), 0, 17);
-    let numbered = pick::either(!any_number_over(version, p, agents), few, 16);
-    let counted = pick::either(counts_fit(agents, rows), numbered, 3);
-    pick::either(version_known(version), counted, 2)
+    if !version_known(version) {
+        return Err(Fault::Version);
+    }
+    if !counts_fit(agents, rows) {
+        return Err(Fault::Limits);
+    }
+    if any_number_over(version, p, agents) {
+        return Err(Fault::AgentKind);
+    }
+    if !dependencies_fit(version, n) {
+        return Err(Fault::Dependencies);
+    }
+    Ok(())
 }
 
 // ---- writing
@@ -109,18 +119,12 @@ pub fn write(
     ensures { let answer = write_answer version agents p count entries d (length out.old) in
         (result ≡ write_result answer) × (out.new ≡ buffer_after answer (encode version agents p count entries d) out.old) }
 {
-    let fault = values_fault(version, agents, p, count, d.count);
-    if fault != 0 {
-        return Err(Refusal {
-            number: fault,
-            row: 0,
-        });
-    }
+    values_fault(version, agents, p, count, d.count)?;
     let t = encode::encode_table(version, agents, p, count, entries, d);
     let size = encode::table_size(version, agents, count, d.count);
     door_admit::admit(&t[..size], true)?;
     if out.len() < size {
-        return Err(Refusal { number: 13, row: 0 });
+        return Err(Fault::Room.into());
     }
     bytes::put(out, 0, &t, size);
     Ok(size as u16)

@@ -9,7 +9,7 @@ ghost use Rattle.door_write.specs.Read.{read_result};
 
 use crate::{Dependencies, Sizes, encode, parts};
 use door_rows::{bytes, scopes};
-use model::{Entry, Places, Refusal};
+use model::{Entry, Fault, Places, Refusal};
 
 fn read_entry(rows: &[u8], i: u16) -> Entry
     ensures { result ≡ entry_of rows.now i }
@@ -123,7 +123,7 @@ pub fn read_parts(
         × (dependencies.new ≡ dependencies_after answer s dependencies.old) }
 {
     if !lent_fit(places.len(), rows.len(), dependencies.len()) {
-        return Err(Refusal { number: 11, row: 0 });
+        return Err(Fault::Buffer.into());
     }
     let counts = door_admit::admit(table, true)?;
     let d = read_dependencies(table);

@@ -9,7 +9,8 @@ use native.Mathlib.Decide.{dec_lt, ℕ_discrete}
 use lib.Dec.{ltb, eqb}
 use borrow.Author.Tests.{lt-ltb, ltb-true, eq-eqb, ne_eqb}
 use Rattle.finite.specs.Logic.{◌and◌, ◌or◌, which, split, and_true, and_false_right, and_on_right, or_cases, or_left, or_right, not_in, not_so, not_both}
-use Rattle.finite.specs.Below.{any_below, any_off, least, least_is, least_unique, least_off}
+use Rattle.std.specs.Prelude.{Option}
+use Rattle.finite.specs.Below.{Finds, any_below, any_off, least, least_is, least_unique, least_off}
 use Rattle.finite.specs.Count.{count_below}
 use Rattle.finite.specs.Closure.{Reach, one, more, reach_trans, reach_cong}
 use Rattle.finite.specs.Walk.{on_cycle, cycle_start}
@@ -204,9 +205,10 @@ module _ (n : ℕ) (w v m : List ℕ) (few : n ≤ ROWS) (cleared : v ≡ zeros 
             (reach_cong (rel m EDGE GRID) (rel v EDGE GRID) n (λ i j a b. within_bit marks.frame ((EDGE + i * GRID) * 64 + j) (λ o. absurd (omega arith))) l l p);
       }
 
-  pub start_law : (r : ℕ) → r ≡ cycle_start n (rel m EDGE GRID) → (r ≡ cycle_start n (rel w EDGE GRID)) × Within LAYERS LAYERS_END w m
+  start_same : cycle_start n (rel m EDGE GRID) ≡ cycle_start n (rel w EDGE GRID)
   unfolding rel
-  start_law r e = (
-    e ∙ cycle_start_cong n (rel m EDGE GRID) (rel w EDGE GRID) (λ i j a b. within_bit second ((EDGE + i * GRID) * 64 + j) (λ o. absurd (omega arith))),
-    second,
-  )
+  start_same =
+      cycle_start_cong n (rel m EDGE GRID) (rel w EDGE GRID) (λ i j a b. within_bit second ((EDGE + i * GRID) * 64 + j) (λ o. absurd (omega arith)))
+
+  pub start_law : (r : Option ℕ) → Finds n (cycle_start n (rel m EDGE GRID)) r → Finds n (cycle_start n (rel w EDGE GRID)) r × Within LAYERS LAYERS_END w m
+  start_law r h = (subst (λ (v : ℕ). Finds n v r) start_same h, second)

@@ -3,6 +3,7 @@
 #![tactic(auto)]
 
 ghost use Rattle.std.specs.Prelude.{◌≡◌, ◌≤◌, length};
+ghost use Rattle.finite.specs.Below.{Finds};
 ghost use Rattle.finite.specs.Lists.{Written};
 ghost use Rattle.finite.specs.Walk.{on_cycle, cycle_start, trail};
 ghost use Rattle.bits.specs.Matrix.{rel};
@@ -34,26 +35,26 @@ fn leads_back(w: &[u64], n: usize, x: usize, among: Set) -> bool
     false
 }
 
-// The lowest row on a cycle, which is marked; n where there is none. No cycle goes by a row that was tried before.
-fn first_looping(w: &[u64], n: usize) -> usize
+// The lowest row on a cycle, which is marked. No cycle goes by a row that was tried before.
+fn first_looping(w: &[u64], n: usize) -> Option<usize>
     requires { (n ≤ ROWS) × (WORK ≤ length w.now) × Looping n w.now }
-    ensures { result ≡ cycle_start n (rel w.now EDGE GRID) }
+    ensures { Finds n (cycle_start n (rel w.now EDGE GRID)) result }
 {
     let mut left = Set::below(n) & kept::get(w, marks::MARKS, 0);
     while let Some(x) = left.first() {
         if leads_back(w, n, x, left) {
-            return x;
+            return Some(x);
         }
         left = left.but_first();
     }
-    n
+    None
 }
 
-// The lowest row on a cycle; n where there is none.
+// The lowest row on a cycle.
 // Ruled out: one that finds cycles of one edge alone; one that marks rows in the edges' region.
-pub fn cycle_start(w: &mut [u64], n: usize) -> usize
+pub fn cycle_start(w: &mut [u64], n: usize) -> Option<usize>
     requires { (n ≤ ROWS) × (WORK ≤ length w.old) }
-    ensures { (result ≡ cycle_start n (rel w.old EDGE GRID)) × Within LAYERS LAYERS_END w.old w.new }
+    ensures { Finds n (cycle_start n (rel w.old EDGE GRID)) result × Within LAYERS LAYERS_END w.old w.new }
 {
     bits::clear(w, work_area::LAYERS, work_area::LAYERS_END);
     marks::mark_rows(w, n);

@@ -1,7 +1,8 @@
 -- Tests on the numbers below a bound: some, all, the least, the first pair; and what each says.
 -- Each recurses on the bound, so that a loop that counts up goes one `suc` at a time. Assumes nothing.
-use Rattle.std.specs.Prelude.{◌≡◌, Bool, true, false, not, ◌⊎◌, ltb, eqb}
+use Rattle.std.specs.Prelude.{Option, None, Some, MatchOption, ◌≡◌, Bool, true, false, not, ◌⊎◌, ltb, eqb}
 use Rattle.std.proofs.Math.Path.{refl}
+use Rattle.std.specs.Option.{is_some}
 use Rattle.std.proofs.Common.{sym, ◌∙◌, inl, inr, not-suc-le-zero, eq-or-lt_of_le, le_of_suc-le-suc, ltb-true, ltb-false, lt-ltb, le-ltb, eqb-true, eq-eqb, ne_eqb}
 use Rattle.std.proofs.Math.Logic.{⊎_elim}
 use Prim.Native.Nat.{ℕ, zero, suc, ◌+◌, ◌≤◌, ◌<◌}
@@ -31,6 +32,10 @@ onward false k = suc k
 unfoldable pub least : ℕ → (ℕ → Bool) → ℕ
 least zero p = zero
 least (suc n) p = onward (p (least n p)) (least n p)
+
+-- what a search below n gives: the number v; or none, where v is n
+abbrev pub Finds : ℕ → ℕ → Option ℕ → Type 0
+Finds n v r = MatchOption r (v ≡ n) (λ k. (k < n) × (k ≡ v))
 
 -- what the least is
 pub record Least (n : ℕ) (p : ℕ → Bool) (l : ℕ) : Type 0 where
@@ -220,3 +225,17 @@ at_one i x b c h = go (ℕ_discrete i x)
     go : Dec (i ≡ x) → (eqb i x and b) ≡ (eqb i x and c)
     go (yes e) = rw (eq-eqb i x e) (h e)
     go (no e) = rw (ne_eqb i x e) refl
+
+-- ---- what a search gives
+
+pub finds_some : (n v : ℕ) (r : Option ℕ) → Finds n v r → is_some r ≡ true → v < n
+finds_some n v None h e = not_both e refl
+finds_some n v (Some k) h e = let l = h.0 in let q = h.1 in omega arith
+
+pub finds_none : (n v : ℕ) (r : Option ℕ) → Finds n v r → is_some r ≡ false → v ≡ n
+finds_none n v None h e = h
+finds_none n v (Some k) h e = not_both refl e
+
+pub finds_test : (n v : ℕ) (r : Option ℕ) → Finds n v r → not (is_some r) ≡ eqb v n
+finds_test n v None h = sym (eq-eqb v n h)
+finds_test n v (Some k) h = let l = h.0 in let q = h.1 in sym (ne_eqb v n (λ e. omega arith))

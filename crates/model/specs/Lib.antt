@@ -13,6 +13,7 @@ pub mod Edge
 pub mod RowFault
 pub mod TableFault
 pub mod Refusal
+pub mod Fault
 pub mod Check
 pub mod Fill
 pub mod Reason

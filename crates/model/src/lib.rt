@@ -3,7 +3,8 @@
 
 ghost use Rattle.std.specs.Prelude.{◌≡◌, eqb, ltb};
 ghost use Rattle.model.specs.Limits.{INITIAL, BLANK};
-ghost use Rattle.model.specs.Refusal.{refusal_of};
+ghost use Rattle.model.specs.Refusal.{refusal};
+ghost use Rattle.model.specs.Fault.{fault_number};
 
 // ---- limits
 
@@ -99,11 +100,45 @@ pub struct Entry {
 
 // ---- answers
 
-// What the door says of a table.
+// What is said of a table: definitions speak of an admission, and code says the same as a `Result` of counts or a refusal.
 #[derive(Clone, Copy)]
 pub enum Admission {
     Admitted { agents: u8, rows: u8 },
     Refused { number: u8, row: u16 },
+}
+
+// Why a table is refused, by the names and the numbers of docs/FORMAT.md.
+#[derive(Clone, Copy, PartialEq, Eq)]
+pub enum Fault {
+    Short = 1,
+    Version = 2,
+    Limits = 3,
+    Length = 4,
+    Code = 5,
+    KindFit = 6,
+    Extent = 7,
+    Class = 8,
+    Source = 9,
+    Rank = 10,
+    Buffer = 11,
+    Moments = 12,
+    Room = 13,
+    Instance = 14,
+    Run = 15,
+    AgentKind = 16,
+    Dependencies = 17,
+    Dependency = 18,
+    AgentRow = 19,
+    OperationFit = 20,
+    Rows = 40,
+}
+
+impl Fault {
+    pub fn number(self) -> u8
+        ensures { result ≡ fault_number self }
+    {
+        self as u8
+    }
 }
 
 // The number and the row of a refusal.
@@ -113,13 +148,24 @@ pub struct Refusal {
     pub row: u16,
 }
 
-// Takes them out. An admission has neither, and is not handed to it: the caller has let it go by `let else`.
-pub fn refusal_of(a: Admission) -> Refusal
-    ensures { result ≡ refusal_of a }
-{
-    match a {
-        Admission::Refused { number, row } => Refusal { number, row },
-        Admission::Admitted { agents: _, rows: _ } => Refusal { number: 0, row: 0 },
+impl Refusal {
+    // A fault of this row.
+    pub fn at(fault: Fault, row: u16) -> Refusal
+        ensures { result ≡ refusal (fault_number fault) row }
+    {
+        Refusal {
+            number: fault.number(),
+            row,
+        }
+    }
+}
+
+// A fault of the whole table is given at row 0.
+impl From<Fault> for Refusal {
+    ghost from_gives = { λ fault given. given ≡ refusal (fault_number fault) 0 };
+
+    fn from(fault: Fault) -> Refusal {
+        Refusal::at(fault, 0)
     }
 }
 

@@ -14,6 +14,13 @@ pub const AT: u8 = 1;
 
 pub const AFTER: u8 = 2;
 
+// Two moments of a table, of which the first is to come before the second.
+#[derive(Clone, Copy)]
+pub struct Ends {
+    pub first: u16,
+    pub second: u16,
+}
+
 // Whether moment k of r is an availability moment.
 pub fn availability_of(r: Row, k: u8) -> bool
     ensures { result ≡ availability_of r k }

@@ -2,7 +2,7 @@ use Rattle.sets_of_rows.specs.First.{first_any}
 use mathlib.Core.Path.{sym, ◌∙◌}
 use native.Mathlib.Omega.{arith}
 use Rattle.sets_of_rows.specs.Walk.{walk_less, search_begin, search_turn, search_end}
-use Rattle.find_cycle.proofs.Closing.{marks_of, loop_off, loop_among, loop_found, loop_not, loop_none}
+use Rattle.find_cycle.proofs.Closing.{marks_of, loop_off, loop_among, loop_found, loop_below, loop_not, loop_none}
 use Rattle.find_cycle.proofs.first_looping.Goals as goal
 
 pub below-requires : goal.below-requires
@@ -29,7 +29,7 @@ pub returns-then-leads_back : goal.returns-then-leads_back
 returns-then-leads_back c =
     let pre = c.requires in
     let rows = marks_of _ _ _ _ pre.0 c.below.ensures c.get.ensures c.bitand-left.ensures in
-    loop_found pre.2 rows c.loop-x.invariant c.in-Some.ensures _ c.leads_back.ensures c.if-leads_back.true
+    (loop_below pre.2 rows c.loop-x.invariant c.in-Some.ensures, loop_found pre.2 rows c.loop-x.invariant c.in-Some.ensures _ c.leads_back.ensures c.if-leads_back.true)
 
 pub but_first-left-requires : goal.but_first-left-requires
 but_first-left-requires c = first_any c.in-Some.ensures
@@ -47,4 +47,4 @@ pub returns : goal.returns
 returns c =
     let pre = c.requires in
     let rows = marks_of _ _ _ _ pre.0 c.below.ensures c.get.ensures c.bitand-left.ensures in
-    loop_none pre.2 rows pre.0 (search_end _ _ (loop_off pre.2 rows) _ (c.in_default.ensures) c.loop-x.invariant.1)
+    sym (loop_none pre.2 rows pre.0 (search_end _ _ (loop_off pre.2 rows) _ (c.in_default.ensures) c.loop-x.invariant.1))

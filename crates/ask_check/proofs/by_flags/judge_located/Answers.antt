@@ -1,4 +1,4 @@
-use mathlib.Core.Path.{refl}
+use mathlib.Core.Path.{refl, sym}
 use native.Mathlib.Omega.{arith}
 use Rattle.model.specs.Table.{decode}
 use Rattle.ask_check.specs.Answers.{show_asked, rows_few, start_found, judge_cyclic, judge_on, known_kept, edges_held}
@@ -10,15 +10,15 @@ show_cycle-size-requires c =
     let pre = c.requires in
     let asked = show_asked _ _ _ _ _ _ _ refl
     c.fill_edges.ensures
-    c.cycle_start-x.ensures.0
-    c.cycle_start-x.ensures.1 pre.2.ready c.if-x-t.true in
+    c.in-Some.ensures.0.1
+    c.cycle_start.ensures.1 pre.2.ready c.in-Some.ensures.0.0 in
     (pre.0, pre.1, asked)
 
 pub overflow_cast-result : goal.overflow_cast-result
 unfolding decode
 overflow_cast-result c =
     let few = rows_few _ _ _ _ refl (start_found _ _ _ _ _ _ refl
-    c.fill_edges.ensures c.cycle_start-x.ensures.0) c.if-x-t.true in
+    c.fill_edges.ensures c.in-Some.ensures.0.1) c.in-Some.ensures.0.0 in
     omega (
       arith,
       few,
@@ -26,19 +26,19 @@ overflow_cast-result c =
       c.requires.2.ready.0,
     )
 
-pub returns-then-x-t : goal.returns-then-x-t
+pub returns-in-Some : goal.returns-in-Some
 unfolding decode
-returns-then-x-t c =
+returns-in-Some c =
     let show = c.show_cycle-size.ensures in
     judge_cyclic _ _ _ _ _ _ _ refl c.fill_edges.ensures
-    c.cycle_start-x.ensures.0
-    c.cycle_start-x.ensures.1 _ _ _ _
-    c.if-x-t.true show.0 show.1 show.2
+    c.in-Some.ensures.0.1
+    c.cycle_start.ensures.1 _ _ _ _
+    c.in-Some.ensures.0.0 show.0 show.1 show.2
 
 pub settle-requires : goal.settle-requires
 settle-requires c =
     let pre = c.requires in
-    let start = c.cycle_start-x.ensures in (
+    let start = (sym c.in_default.ensures.0, c.cycle_start.ensures.1) in (
       pre.1,
       record { bounded = pre.2.bounded; ready = known_kept (omega arith) pre.2.ready (edges_held c.fill_edges.ensures start.1).1 },
     )
@@ -46,6 +46,6 @@ settle-requires c =
 pub returns : goal.returns
 unfolding decode
 returns c =
-    let start = c.cycle_start-x.ensures in
+    let start = (sym c.in_default.ensures.0, c.cycle_start.ensures.1) in
     judge_on _ _ _ _ _ _ _ refl c.fill_edges.ensures start.0
-    start.1 _ _ c.if-x-t.false c.settle.ensures
+    start.1 _ _ (omega arith) c.settle.ensures

@@ -1,17 +1,40 @@
-use Rattle.door_admit.proofs.Laws.{form_operation, form_kind, form_extent}
-use mathlib.Core.Path.{ap}
-use mathlib.Core.Bool.{not}
+use mathlib.Core.Path.{refl, sym, ◌∙◌}
+use Rattle.model.specs.RowFault.{form_fault}
 use Rattle.door_admit.proofs.row_faults.form_fault.Goals as goal
 
+pub returns-then-not-operation_fits : goal.returns-then-not-operation_fits
+unfolding form_fault
+returns-then-not-operation_fits c = rw (
+  sym c.is_operation.ensures ∙ c.if-is_operation.true,
+  sym c.operation_fits.ensures ∙ c.if-not-operation_fits.true,
+) refl
+
 pub returns-then-is_operation : goal.returns-then-is_operation
-returns-then-is_operation c =
-    form_operation _ _ _ c.is_operation.ensures _ _ c.if-is_operation.true c.operation_fits.ensures c.either.ensures
+unfolding form_fault
+returns-then-is_operation c = rw (
+  sym c.is_operation.ensures ∙ c.if-is_operation.true,
+  sym c.operation_fits.ensures ∙ c.if-not-operation_fits.false,
+) refl
 
 pub returns-then-not-kind_fits : goal.returns-then-not-kind_fits
-returns-then-not-kind_fits c = form_kind _ _ _ c.is_operation.ensures c.if-is_operation.false _ c.kind_fits.ensures
-    (ap not c.if-not-kind_fits.true)
+unfolding form_fault
+returns-then-not-kind_fits c = rw (
+  sym c.is_operation.ensures ∙ c.if-is_operation.false,
+  sym c.kind_fits.ensures ∙ c.if-not-kind_fits.true,
+) refl
+
+pub returns-then-not-extent_fits : goal.returns-then-not-extent_fits
+unfolding form_fault
+returns-then-not-extent_fits c = rw (
+  sym c.is_operation.ensures ∙ c.if-is_operation.false,
+  sym c.kind_fits.ensures ∙ c.if-not-kind_fits.false,
+  sym c.extent_fits.ensures ∙ c.if-not-extent_fits.true,
+) refl
 
 pub returns : goal.returns
-returns c =
-    form_extent _ _ _ c.is_operation.ensures c.if-is_operation.false _ c.kind_fits.ensures _ _ (ap not c.if-not-kind_fits.false)
-    c.extent_fits.ensures c.either-2.ensures
+unfolding form_fault
+returns c = rw (
+  sym c.is_operation.ensures ∙ c.if-is_operation.false,
+  sym c.kind_fits.ensures ∙ c.if-not-kind_fits.false,
+  sym c.extent_fits.ensures ∙ c.if-not-extent_fits.false,
+) refl

@@ -8,7 +8,8 @@ use Rattle.model_laws.specs.AdmissionLaws.{answer_admitted, answer_refused}
 use Rattle.door_write.proofs.read.read_parts.Goals as goal
 
 pub returns-then-not-lent_fit : goal.returns-then-not-lent_fit
-returns-then-not-lent_fit c = given_refused _ _ _ _ _ _ _ (parts_short _ _ _ _ (sym c.lent_fit.ensures ∙ c.if-not-lent_fit.true))
+returns-then-not-lent_fit c =
+    rw c.into.ensures (given_refused _ _ _ _ _ _ _ (parts_short _ _ _ _ (sym c.lent_fit.ensures ∙ c.if-not-lent_fit.true)))
 
 pub returns-in_err-counts : goal.returns-in_err-counts
 returns-in_err-counts c =

@@ -18,7 +18,7 @@ returns-then-not-reads-writes c =
     may_is _ _ _ _ _ _ _ _ _ _ _ refl c.source_at-s.ensures c.row-r.ensures c.row-q.ensures
     c.reads.ensures c.writes.ensures c.is_row.ensures
     in
-    over_none _ _ _ _ (sym may ∙ c.if-not-reads-writes.true)
+    sym (over_none _ _ _ _ (sym may ∙ c.if-not-reads-writes.true))
 
 pub loop-k-init : goal.loop-k-init
 unfolding decode ◌and◌
@@ -50,7 +50,7 @@ returns-then-before_byte c =
     overwrites_on _ _ _ _ _ _ _ _ _ loop.invariant.1 c.source_at-s.ensures (ap (λ (v : Row). v.start + loop.k) c.row-r.ensures)
     c.before_byte.ensures c.before_byte-in-loop-k.ensures
     in
-    sym (least_found _ _ _ loop.invariant.2 (sym on ∙ c.if-before_byte.true) c.loop-k-test.true)
+    (c.loop-k-test.true, sym (least_found _ _ _ loop.invariant.2 (sym on ∙ c.if-before_byte.true) c.loop-k-test.true))
 
 pub loop-k-preserved : goal.loop-k-preserved
 unfolding decode ◌and◌
@@ -64,4 +64,4 @@ loop-k-preserved c =
 
 pub returns : goal.returns
 unfolding over_nth
-returns c = let e : c.loop-k.k ≡ PAIR = omega arith in sym (rw e at c.loop-k.invariant.2)
+returns c = let e : c.loop-k.k ≡ PAIR = omega arith in rw e at c.loop-k.invariant.2

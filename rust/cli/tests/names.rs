@@ -7,7 +7,7 @@ use std::path::{Path, PathBuf};
 
 /// Names of others: Vulkan's, SPIR-V's, Rust's, the prover's, and those of
 /// programs.
-const FOREIGN: [&str; 16] = [
+const FOREIGN: [&str; 18] = [
     "appendices/memorymodel.adoc",
     "6666fa32b8da…",
     "vulkanMemoryModelAvailabilityVisibilityChains",
@@ -17,6 +17,8 @@ const FOREIGN: [&str; 16] = [
     "NonPrivatePointer",
     "UniformMemory",
     "Copy",
+    "Iterator",
+    "Result",
     "break",
     "match",
     "non_exhaustive",

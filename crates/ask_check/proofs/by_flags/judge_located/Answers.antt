@@ -38,14 +38,13 @@ returns-in-Some c =
 pub settle-requires : goal.settle-requires
 settle-requires c =
     let pre = c.requires in
-    let start = (sym c.in_default.ensures.0, c.cycle_start.ensures.1) in (
+    (
       pre.1,
-      record { bounded = pre.2.bounded; ready = known_kept (omega arith) pre.2.ready (edges_held c.fill_edges.ensures start.1).1 },
+      record { bounded = pre.2.bounded; ready = known_kept (omega arith) pre.2.ready (edges_held c.fill_edges.ensures c.cycle_start.ensures.1).1 },
     )
 
 pub returns : goal.returns
 unfolding decode
 returns c =
-    let start = (sym c.in_default.ensures.0, c.cycle_start.ensures.1) in
-    judge_on _ _ _ _ _ _ _ refl c.fill_edges.ensures start.0
-    start.1 _ _ (omega arith) c.settle.ensures
+    judge_on _ _ _ _ _ _ _ refl c.fill_edges.ensures (sym c.in_default.ensures.0)
+    c.cycle_start.ensures.1 _ _ (omega arith) c.settle.ensures

@@ -12,8 +12,7 @@ unfolding decode
 show_cycle-size-requires c =
     let pre = c.requires in
     let few = given_few pre.2.given in
-    let start = (c.in-Some.ensures.0.1, c.cycle_start.ensures.1) in
-    let asked = show_asked _ _ _ _ _ _ _ refl (grid_made few c.fill_edges.ensures) start.0 start.1 (ready_by_sets pre.2) c.in-Some.ensures.0.0 in
+    let asked = show_asked _ _ _ _ _ _ _ refl (grid_made few c.fill_edges.ensures) c.in-Some.ensures.0.1 c.cycle_start.ensures.1 (ready_by_sets pre.2) c.in-Some.ensures.0.0 in
     (pre.0, pre.1.each, asked)
 
 pub overflow_cast-result : goal.overflow_cast-result
@@ -41,6 +40,5 @@ settle-requires c =
 pub returns : goal.returns
 unfolding decode
 returns c =
-    let start = (sym c.in_default.ensures.0, c.cycle_start.ensures.1) in
     let small = given_few c.requires.2.given in
-    judge_on _ _ _ _ _ _ _ refl (grid_made small c.fill_edges.ensures) start.0 start.1 _ _ (omega arith) c.settle.ensures
+    judge_on _ _ _ _ _ _ _ refl (grid_made small c.fill_edges.ensures) (sym c.in_default.ensures.0) c.cycle_start.ensures.1 _ _ (omega arith) c.settle.ensures

@@ -37,8 +37,7 @@ returns-in-Some c =
 
 pub settle-requires : goal.settle-requires
 settle-requires c =
-    let pre = c.requires in
-    (
+    let pre = c.requires in (
       pre.1,
       record { bounded = pre.2.bounded; ready = known_kept (omega arith) pre.2.ready (edges_held c.fill_edges.ensures c.cycle_start.ensures.1).1 },
     )

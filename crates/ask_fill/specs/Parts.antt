@@ -67,7 +67,7 @@ reader_bound : (t : Table) (source : ℕ → ℕ) → over_reader t source ≤ t
 unfolding over_reader
 reader_bound t source = (least_is (is_overwritten t source) t.rows).bound
 
-turned : (b c : Bool) → c ≡ not b → b ≡ not c
+pub turned : (b c : Bool) → c ≡ not b → b ≡ not c
 turned true c e = rw e refl
 turned false c e = rw e refl
 

@@ -18,7 +18,7 @@ pub const DEPENDS: usize = 264;
 
 pub const ROWS_AT: usize = 522;
 
-#[derive(Drop)]
+#[derive(Clone, Copy)]
 pub struct Run {
     pub bytes: [u8; SIZE],
     pub rows: usize,

@@ -8,10 +8,10 @@ use Rattle.finite.specs.Lists.{tabulate, length_tabulate, get_d_tabulate}
 use Rattle.std.specs.Result.{MatchResult}
 use Rattle.std.specs.declared.result.Result.{Result}
 use Rattle.std.specs.declared.result.Result.TheVariants.{Ok, Err}
-use Rattle.model.specs.declared.Counts.{Counts}
+use Rattle.model.specs.declared.Admission.{Admission}
+use Rattle.model.specs.declared.Admission.TheVariants.{Admitted, Refused}
 use Rattle.model.specs.declared.Refusal.{Refusal}
-use Rattle.model.specs.Refusal.{admission_answer}
-use Rattle.model_laws.specs.AdmissionLaws.{answer_admitted}
+use Rattle.model.specs.Refusal.{admission_answer, refusal_of}
 use Rattle.model.specs.Limits.{WORK}
 use Rattle.model.specs.Table.{Mode, mode_of, byte_of, pair_of, row_of, source_of, atomic_source, decode, table_under, sources_of}
 use Rattle.model.specs.Header.{ROW_BYTES, rows_at, row_bytes, places_of, pair_at}
@@ -37,8 +37,8 @@ pub record Entered (needs : ℕ) (blanks chains : Bool) (f s : List ℕ) (work b
   pub sources : source_of (rows_in t) ≡ sources_of (joined f s)
 
 -- what a door leaves in t: the run, where it admits
-abbrev pub Opens : ℕ → Bool → Bool → List ℕ → List ℕ → ℕ → ℕ → Result Counts Refusal → List ℕ → Type 0
-Opens needs blanks chains f s work buffer a t = (k : Counts) → a ≡ Ok k → Entered needs blanks chains f s work buffer t k.rows
+abbrev pub Opens : ℕ → Bool → Bool → List ℕ → List ℕ → ℕ → ℕ → Admission → List ℕ → Type 0
+Opens needs blanks chains f s work buffer a t = (g n : ℕ) → a ≡ Admitted g n → Entered needs blanks chains f s work buffer t n
 
 -- what an entry point goes on with: the run of the pieces, where the door admits them; else their refusal
 abbrev pub Enters : ℕ → Bool → Bool → List ℕ → List ℕ → ℕ → ℕ → Result Run Refusal → Type 0
@@ -121,30 +121,26 @@ module _ (chains : Bool) (t u : List ℕ) (same : (i : ℕ) → get_or (rows_in 
   unfolding sources_of
   sources_is = sources_same (rows_in t) (row_bytes u) same
 
-module _ (needs : ℕ) (blanks chains : Bool) (f s : List ℕ) (work buffer : ℕ) (a : Result Counts Refusal) (t : List ℕ) where
+module _ (needs : ℕ) (blanks chains : Bool) (f s : List ℕ) (work buffer : ℕ) (a : Admission) (t : List ℕ) where
   -- a refusal says nothing of the run
-  pub opens_refused : {x : Refusal} → a ≡ Err x → Opens needs blanks chains f s work buffer a t
-  opens_refused {x} q k h = absurd (refused_admits (sym q ∙ h))
+  pub opens_refused : {m i : ℕ} → a ≡ Refused m i → Opens needs blanks chains f s work buffer a t
+  opens_refused {m} {i} q g n h = absurd (refused_admits (sym q ∙ h))
     where
-      admits : Result Counts Refusal → ℕ
-      admits (Ok k) = 1
-      admits (Err x) = 0
+      admits : Admission → ℕ
+      admits (Admitted x y) = 1
+      admits (Refused x y) = 0
 
-      refused_admits : ◌≡◌ {A = Result Counts Refusal} (Err x) (Ok k) → ⊥
+      refused_admits : {g n : ℕ} → Refused m i ≡ Admitted g n → ⊥
       refused_admits e = let z : ◌≡◌ {A = ℕ} 0 1 = ap admits e in omega arith
 
-  pub opens_laid : a ≡ admission_answer (door_both needs blanks f s work buffer) → Laid (flag_byte chains) f s t
-      → Opens needs blanks chains f s work buffer a t
-  opens_laid e l counts h =
-      let n = counts.rows in
-      let d = door_both needs blanks f s work buffer in
-      let admits = answer_admitted d (sym e ∙ h) in
-      let k = door_admits needs blanks f s work buffer d refl admits in
-      let right = pieces_right blanks f s d k.2 admits in
+  pub opens_laid : a ≡ door_both needs blanks f s work buffer → Laid (flag_byte chains) f s t → Opens needs blanks chains f s work buffer a t
+  opens_laid e l g n h =
+      let k = door_admits needs blanks f s work buffer a e h in
+      let right = pieces_right blanks f s a k.2 h in
       let same = run_same f s (rows_in t) right (laid_rows chains f s t l) in
       let places = laid_places chains f s t l ∙ sym (joined_places f s right) in
       let modes = laid_mode chains f s t l ∙ sym (joined_mode f s right chains) in
-      let all = all_both blanks f s d k.2 admits in
+      let all = all_both blanks f s a k.2 h in
       record {
         room = k.0;
         space = k.1;
@@ -152,7 +148,7 @@ module _ (needs : ℕ) (blanks chains : Bool) (f s : List ℕ) (work buffer : �
             record {
               table = joined f s;
               chains = chains;
-              sound = sound_both blanks f s d k.2 admits;
+              sound = sound_both blanks f s a k.2 h;
               rows = rows_same (rows_in t) (row_bytes (joined f s)) same;
               places = places;
               modes = modes;
@@ -161,3 +157,15 @@ module _ (needs : ℕ) (blanks chains : Bool) (f s : List ℕ) (work buffer : �
         table = table_is chains t (joined f s) same n places modes all;
         sources = sources_is chains t (joined f s) same;
       }
+
+-- ---- laws: an entry point that goes on
+
+module _ (needs : ℕ) (blanks chains : Bool) (f s : List ℕ) (work buffer : ℕ) {a : Admission} (said : a ≡ door_both needs blanks f s work buffer) where
+  pub enters_refused : {n i : ℕ} {x : Refusal} → a ≡ Refused n i → x ≡ refusal_of a → Enters needs blanks chains f s work buffer (Err x)
+  unfolding admission_answer refusal_of
+  enters_refused h e = rw (← said, e, h) refl
+
+  pub enters_admitted : {g n : ℕ} {t : List ℕ} → a ≡ Admitted g n → Opens needs blanks chains f s work buffer a t
+      → Enters needs blanks chains f s work buffer (Ok (record { bytes = t; rows = n }))
+  unfolding admission_answer
+  enters_admitted {g} {n} h opens = (g, ap admission_answer (sym said ∙ h), opens g n h)

@@ -3,7 +3,6 @@
 
 ghost use Rattle.std.specs.Prelude.{◌≡◌, ◌++◌, ◌+◌, ◌≤◌, ◌<◌, min, length, get_or, replicate};
 ghost use Rattle.model.specs.Header.{HEADER, has_hosts, row_bytes};
-ghost use Rattle.model.specs.Refusal.{admission_answer};
 ghost use Rattle.door_pieces.specs.Pieces.{AREA, early_fault, admission_both};
 ghost use Rattle.door_pieces.specs.Entry.{door_both};
 ghost use Rattle.run.specs.Layout.{SIZE, DEPENDS, ROWS_AT};
@@ -11,7 +10,7 @@ ghost use Rattle.door_open.specs.Laid.{Put, Laid, head_of, place_byte, place_cou
 ghost use Rattle.door_open.specs.Opened.{Opens, Enters};
 
 use door_rows::{bytes, pick};
-use model::{Counts, Fault, Refusal};
+use model::{Admission, Refusal};
 use run::Run;
 
 // The bytes of all dependencies, and of all rows, that there may be.
@@ -86,9 +85,9 @@ fn lay(first: &[u8], second: &[u8], t: &mut [u8])
 // ---- the door
 
 // What the rows of a run of two pieces are refused for, or their counts; no earlier refusal holds of the two.
-fn admit(first: &[u8], second: &[u8], t: &[u8], blanks: bool) -> Result<Counts, Refusal>
+fn admit(first: &[u8], second: &[u8], t: &[u8], blanks: bool) -> Admission
     requires { (early_fault first.now second.now ≡ 0) × Laid 0 first.now second.now t.now }
-    ensures { result ≡ admission_answer (admission_both blanks first.now second.now) }
+    ensures { result ≡ admission_both blanks first.now second.now }
 {
     let n = door_pieces::rows_both(first, second);
     let hosts = bytes::has_hosts(first);
@@ -97,13 +96,14 @@ fn admit(first: &[u8], second: &[u8], t: &[u8], blanks: bool) -> Result<Counts, 
     let counted = run::counted_in(t);
     let all = run::rows_in(t);
     let end = n * bytes::ROW_BYTES;
-    door_admit::admit_rows(&all[..end], hosts, p, counted, agents, n as u8, blanks)
+    let said = door_admit::admit_rows(&all[..end], hosts, p, counted, agents, n as u8, blanks);
+    Admission::of(said)
 }
 
 // Refusal 11, from the lengths of the work area and of another buffer, which must hold so many numbers; then every refusal of the pieces; or
 // their counts, and in t, which comes with zeros, their run.
 // Ruled out: one whose switch is always on; one that takes a short buffer where the work area is long enough.
-fn enter_into(
+pub fn enter_into(
     first: &[u8],
     second: &[u8],
     chains: bool,
@@ -112,22 +112,27 @@ fn enter_into(
     work: usize,
     buffer: usize,
     t: &mut [u8],
-) -> Result<Counts, Refusal>
+) -> Admission
     requires { t.old ≡ replicate SIZE 0 }
-    ensures { (result ≡ admission_answer (door_both needs blanks first.now second.now work buffer))
+    ensures { (result ≡ door_both needs blanks first.now second.now work buffer)
         × Opens needs blanks chains first.now second.now work buffer result t.new }
 {
     if !((model::WORK <= work) & (needs <= buffer)) {
-        return Err(Fault::Buffer.into());
+        return Admission::Refused { number: 11, row: 0 };
     }
-    door_pieces::early_fault(first, second)?;
+    if let Err(fault) = door_pieces::early_fault(first, second) {
+        return Admission::Refused {
+            number: fault.number(),
+            row: 0,
+        };
+    }
     lay(first, second, t);
     let a = admit(first, second, t, blanks);
     t[2] = pick::either(chains, 1, 0);
     a
 }
 
-// The run of two pieces, where the door admits them; else why not.
+// The run of two pieces, where the door admits them; else why not: a table that is refused never reaches the rules.
 // Ruled out: one whose run has no rows; one that gives a run where a buffer is short.
 pub fn enter(
     first: &[u8],
@@ -144,16 +149,11 @@ pub fn enter(
         bytes: [0u8; run::SIZE],
         rows: 0,
     };
-    let counts = enter_into(
-        first,
-        second,
-        chains,
-        blanks,
-        needs,
-        work,
-        buffer,
-        &mut run.bytes,
-    )?;
-    run.rows = counts.rows as usize;
+    let t = &mut run.bytes;
+    let a = enter_into(first, second, chains, blanks, needs, work, buffer, t);
+    let Admission::Admitted { agents: _, rows } = a else {
+        return Err(model::refusal_of(a));
+    };
+    run.rows = rows as usize;
     Ok(run)
 }

@@ -9,7 +9,7 @@ ghost use Rattle.door_write.specs.Answer.{version_known, counts_fit, number_over
 ghost use Rattle.door_write.specs.Answer.{write_result};
 
 use door_rows::{bytes, scopes};
-use model::{Entry, Fault, Places, Refusal};
+use model::{Admission, Entry, Fault, Places, Refusal};
 
 pub mod encode; // the bytes of a table
 pub mod parts; // values out of lent parts
@@ -122,7 +122,10 @@ pub fn write(
     values_fault(version, agents, p, count, d.count)?;
     let t = encode::encode_table(version, agents, p, count, entries, d);
     let size = encode::table_size(version, agents, count, d.count);
-    door_admit::admit(&t[..size], true)?;
+    let a = Admission::of(door_admit::admit(&t[..size], true));
+    let Admission::Admitted { agents: _, rows: _ } = a else {
+        return Err(model::refusal_of(a));
+    };
     if out.len() < size {
         return Err(Fault::Room.into());
     }

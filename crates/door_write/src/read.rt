@@ -9,7 +9,7 @@ ghost use Rattle.door_write.specs.Read.{read_result};
 
 use crate::{Dependencies, Sizes, encode, parts};
 use door_rows::{bytes, scopes};
-use model::{Entry, Fault, Places, Refusal};
+use model::{Admission, Entry, Fault, Places, Refusal};
 
 fn read_entry(rows: &[u8], i: u16) -> Entry
     ensures { result ≡ entry_of rows.now i }
@@ -125,15 +125,18 @@ pub fn read_parts(
     if !lent_fit(places.len(), rows.len(), dependencies.len()) {
         return Err(Fault::Buffer.into());
     }
-    let counts = door_admit::admit(table, true)?;
+    let a = Admission::of(door_admit::admit(table, true));
+    let Admission::Admitted { agents, rows: n } = a else {
+        return Err(model::refusal_of(a));
+    };
     let d = read_dependencies(table);
-    put_places(places, scopes::read_places(table), counts.agents);
-    put_entries(rows, read_entries(table), counts.rows);
+    put_places(places, scopes::read_places(table), agents);
+    put_entries(rows, read_entries(table), n);
     put_ends(dependencies, d);
     Ok(Sizes {
         version: bytes::byte_at(table, 4),
-        agents: counts.agents,
-        rows: counts.rows,
+        agents,
+        rows: n,
         dependencies: d.count,
     })
 }

@@ -103,6 +103,11 @@ admission blanks s =
 
 -- ---- what is said of it
 
+-- a refusal's number and row; an admission has neither
+unfoldable pub refusal_of : Admission → Refusal
+refusal_of (Refused n i) = refusal n i
+refusal_of (Admitted a n) = refusal 0 0
+
 -- a refusal as `refused` of its number and row, else v, whatever kind of answer it is
 unfoldable pub when_admitted : {A : Type 0} → (ℕ → ℕ → A) → Admission → A → A
 when_admitted refused (Refused n i) v = refused n i

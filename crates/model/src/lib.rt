@@ -3,7 +3,7 @@
 
 ghost use Rattle.std.specs.Prelude.{◌≡◌, eqb, ltb};
 ghost use Rattle.model.specs.Limits.{INITIAL, BLANK};
-ghost use Rattle.model.specs.Refusal.{refusal};
+ghost use Rattle.model.specs.Refusal.{refusal, refusal_of, admission_answer};
 ghost use Rattle.model.specs.Fault.{fault_number};
 
 // ---- limits
@@ -100,11 +100,30 @@ pub struct Entry {
 
 // ---- answers
 
-// What is said of a table: definitions speak of an admission, and code says the same as a `Result` of counts or a refusal.
+// What is said of a table.
 #[derive(Clone, Copy)]
 pub enum Admission {
     Admitted { agents: u8, rows: u8 },
     Refused { number: u8, row: u16 },
+}
+
+impl Admission {
+    // The same as a `Result` of counts or a refusal says it.
+    // Ruled out: one that exchanges the two counts; one whose refusals all name row 0.
+    pub fn of(answer: Result<Counts, Refusal>) -> Admission
+        ensures { admission_answer result ≡ answer }
+    {
+        match answer {
+            Ok(counts) => Admission::Admitted {
+                agents: counts.agents,
+                rows: counts.rows,
+            },
+            Err(refusal) => Admission::Refused {
+                number: refusal.number,
+                row: refusal.row,
+            },
+        }
+    }
 }
 
 // Why a table is refused, by the names and the numbers of docs/FORMAT.md.
@@ -157,6 +176,16 @@ impl Refusal {
             number: fault.number(),
             row,
         }
+    }
+}
+
+// Takes them out. An admission has neither, and is not handed to it: the caller has let it go by `let else`.
+pub fn refusal_of(a: Admission) -> Refusal
+    ensures { result ≡ refusal_of a }
+{
+    match a {
+        Admission::Refused { number, row } => Refusal { number, row },
+        Admission::Admitted { agents: _, rows: _ } => Refusal { number: 0, row: 0 },
     }
 }
 

@@ -16,7 +16,7 @@ use Rattle.model.specs.declared.Counts.{Counts}
 use Rattle.model.specs.declared.Refusal.{Refusal}
 use Rattle.model.specs.declared.Admission.{Admission}
 use Rattle.model.specs.declared.Admission.TheVariants.{Admitted, Refused}
-use Rattle.model.specs.Refusal.{refusal, admission_answer}
+use Rattle.model.specs.Refusal.{refusal, refusal_of, admission_answer}
 use Rattle.model.specs.Limits.{AGENTS, ROWS, DEPENDENCIES, LONGEST, BYTES}
 use Rattle.model.specs.Row.{RMW, CONTROL, AVAILABLE_HOST, BOTH, access, control, operation}
 use Rattle.model.specs.Scope.{DEVICE, agent_kind}
@@ -100,6 +100,17 @@ pub answer_refused : (a : Admission) {r : Refusal} → admission_answer a ≡ Er
 unfolding admission_answer
 answer_refused (Admitted g n) e = let z : ◌≡◌ {A = ℕ} 1 0 = ap is_admitted e in absurd (omega arith)
 answer_refused (Refused n i) e = ap (λ (r : Refusal). Refused r.number r.row) (ap refused_in e)
+
+-- a program's answer says all that an admission does
+pub answer_same : (a b : Admission) → admission_answer a ≡ admission_answer b → a ≡ b
+unfolding admission_answer
+answer_same a (Admitted g n) e = answer_admitted a e
+answer_same a (Refused n i) e = answer_refused a e
+
+-- a refusal as it is taken out of an admission
+pub refusal_is : {a : Admission} {x : Refusal} {n i : ℕ} → x ≡ refusal_of a → a ≡ Refused n i → a ≡ Refused x.number x.row
+unfolding refusal_of
+refusal_is e h = rw (e, h) refl
 
 -- a refusal is no admission
 pub not_admitted : {A : Type 0} {n i a r : ℕ} → Refused n i ≡ Admitted a r → A

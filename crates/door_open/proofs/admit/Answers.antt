@@ -4,6 +4,7 @@ use native.Mathlib.Omega.{arith}
 use Rattle.door_pieces.specs.PiecesLaws.{both_fit, early_pieces, early_passed, joined_front, front_length}
 use Rattle.door_open.specs.Laid.{laid_rows, laid_places, laid_mode}
 use Rattle.model.specs.Table.{Mode}
+use Rattle.model_laws.specs.AdmissionLaws.{answer_same}
 use Rattle.door_open.proofs.admit.Goals as goal
 
 pub overflow_mul-end : goal.overflow_mul-end
@@ -34,4 +35,4 @@ returns c =
       ← (c.places_in-p.ensures ∙ laid_places false _ _ _ laid),
       ← (c.counted_in-counted.ensures ∙ ap (λ (g : Mode). g.counted) (laid_mode false _ _ _ laid)),
     )
-    c.admit_rows.ensures
+    (answer_same _ _ (c.of.ensures ∙ c.admit_rows-said.ensures))

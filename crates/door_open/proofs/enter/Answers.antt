@@ -1,12 +1,8 @@
-use Rattle.std.proofs.Common.{sym, ◌∙◌}
-use Rattle.std.proofs.lemmas.Result.{err_from_is_err_and}
+use Rattle.door_open.specs.Opened.{enters_refused, enters_admitted}
 use Rattle.door_open.proofs.enter.Goals as goal
 
-pub returns-in_err-counts : goal.returns-in_err-counts
-returns-in_err-counts c =
-    let p = err_from_is_err_and c.from_residual.result c.from_residual.ensures.1 in
-    rw (p.1, p.2) (sym c.enter_into.ensures.0 ∙ c.in_err-counts.was)
+pub returns-in_default : goal.returns-in_default
+returns-in_default c = enters_refused _ _ c.args.chains _ _ _ _ c.enter_into-a.ensures.0 c.in_default.is c.refusal_of.ensures
 
 pub returns : goal.returns
-returns c =
-    (c.in_ok-counts.counts.agents, sym c.enter_into.ensures.0 ∙ c.in_ok-counts.was, c.enter_into.ensures.1 _ c.in_ok-counts.was)
+returns c = enters_admitted _ _ _ _ _ _ _ c.enter_into-a.ensures.0 c.in-Admitted.is c.enter_into-a.ensures.1

@@ -2,7 +2,7 @@ use native.Mathlib.Omega.{arith}
 use mathlib.Core.Path.{refl, sym, ◌∙◌}
 use Rattle.std.proofs.lemmas.Result.{err_from_is_err_and}
 use Rattle.door_admit.proofs.Laws.{fault_counts}
-use Rattle.model_laws.specs.AdmissionLaws.{answer_admitted, answer_refused}
+use Rattle.model_laws.specs.AdmissionLaws.{answer_same, refusal_is}
 use Rattle.door_write.specs.ValueLaws.{values_fit, agents_few, rows_few, after_few}
 use Rattle.door_write.proofs.Laws.{few_bytes, front_is, front_size, answer_is, values_refused, refused_both, written_both, refused_out, short_is, long_is}
 use borrow.Author.Rules.{rules}
@@ -29,16 +29,14 @@ pub slice_bounds-admit-end : goal.slice_bounds-admit-end
 slice_bounds-admit-end c = front_size _ _ _ _ _ _ 0 _ c.in_ok-values_fault.ensures
     refl _ _ c.table_size-size.ensures.0 c.encode_table-t.ensures
 
-pub returns-in_err-admit : goal.returns-in_err-admit
-returns-in_err-admit c =
-    let p = err_from_is_err_and c.from_residual-in_err-admit.result c.from_residual-in_err-admit.ensures.1 in
-    let refused = answer_refused _ (sym c.admit.ensures ∙ c.in_err-admit.was) in
-    rw (p.1, p.2)
-    (refused_out _ _ _ _ (answer_is _ _ _ _ _ _ _ _
+pub returns-in_default : goal.returns-in_default
+returns-in_default c =
+    let said = answer_same _ _ (c.of-a.ensures ∙ c.admit.ensures) in
+    refused_out _ _ _ _ (answer_is _ _ _ _ _ _ _ _
     c.in_ok-values_fault.ensures
     refl _ _
     c.table_size-size.ensures.0
-    c.encode_table-t.ensures _ refl) _ _ _ refused)
+    c.encode_table-t.ensures _ said) _ _ _ (refusal_is c.refusal_of.ensures c.in_default.is)
 
 pub returns-then-out-size : goal.returns-then-out-size
 returns-then-out-size c =
@@ -47,8 +45,8 @@ returns-then-out-size c =
     (answer_is _ _ _ _ _ _ _ _ c.in_ok-values_fault.ensures
     refl _ _
     c.table_size-size.ensures.0
-    c.encode_table-t.ensures _ refl) _ _
-    (answer_admitted _ (sym c.admit.ensures ∙ c.in_ok-admit.was)) c.if-out-size.true))
+    c.encode_table-t.ensures _ (answer_same _ _ (c.of-a.ensures ∙ c.admit.ensures))) _ _
+    c.in-Admitted.is c.if-out-size.true))
 
 pub put-requires : goal.put-requires
 put-requires c =
@@ -67,8 +65,8 @@ pub returns : goal.returns
 returns c =
     written_both _ _ _ _ _ _ (long_is _ _ _ _
     (answer_is _ _ _ _ _ _ _ _ c.in_ok-values_fault.ensures refl _ _ c.table_size-size.ensures.0
-    c.encode_table-t.ensures _ refl) _ _
-    (answer_admitted _ (sym c.admit.ensures ∙ c.in_ok-admit.was)) c.if-out-size.false)
+    c.encode_table-t.ensures _ (answer_same _ _ (c.of-a.ensures ∙ c.admit.ensures))) _ _
+    c.in-Admitted.is c.if-out-size.false)
     c.put.ensures (front_is _ _ _ _ _ _ 0 _
     c.in_ok-values_fault.ensures
     refl _ _

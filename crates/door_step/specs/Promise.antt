@@ -1,6 +1,7 @@
 -- The stepping reader, in its reader's words: what a fill refuses, 11 aside, isn't opened; else the steps give rows 0 onward, each once, then the
 -- end at every further call. What is assumed of the reader r is what the contract of `open` ensures; `steps_of r i` is what call i of
--- `next` gives, by the contract of `next`. Of a table that a fill refuses `open` gives the refusal, and no reader.
+-- `next` gives, by the contract of `next`. What `open` says of the table beside the reader is `admission true s` itself; `try_open` gives that
+-- reader where a fill admits the table, else the refusal.
 -- `stepped_at s i` is what `step_from` gives: a reader opened on s, put at place i, and one step of it.
 use Rattle.std.specs.Prelude.{◌≡◌, true, ℕ, ◌+◌, ◌≤◌, ◌<◌}
 use Rattle.std.proofs.Math.Path.{refl, ap}

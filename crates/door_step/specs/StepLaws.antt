@@ -4,6 +4,7 @@ use Rattle.std.proofs.Common.{sym, ◌∙◌, arith, add-one, le-leb}
 use Rattle.std.proofs.Math.Decide.{dec_lt}
 use Rattle.std.proofs.lemmas.Bool.{lt-leb}
 use Rattle.model.specs.Header.{agents_at, rows_at}
+use Rattle.model.specs.declared.Admission.{Admission}
 use Rattle.model.specs.declared.Admission.TheVariants.{Admitted, Refused}
 use Rattle.model.specs.Refusal.{admission, admission_answer}
 use Rattle.door_step.specs.declared.RowReader.{RowReader}
@@ -16,7 +17,7 @@ use Rattle.model.specs.declared.Counts.{Counts}
 use Rattle.model.specs.declared.Refusal.{Refusal}
 use Rattle.model_laws.specs.AdmissionLaws.{sound_admitted, admitted_sound, answer_admitted}
 use Rattle.door_step.specs.declared.Stepped.TheVariants as answer
-use Rattle.door_step.specs.Steps.{entry_at, step_at, next_at, opened_part, moved, moved_by, steps_of, stepped, stepped_at, step_result}
+use Rattle.door_step.specs.Steps.{StepAnswer, entry_at, step_at, next_at, opened_part, moved, moved_by, steps_of, stepped, stepped_at, step_result}
 
 -- ---- one step
 
@@ -104,11 +105,15 @@ steps_end n r z l =
 
 -- ---- a reader is opened
 
+-- the counts that an admission names are the table's
+pub opened_counts : (s : List ℕ) {g n : ℕ} → admission true s ≡ Admitted g n → admission true s ≡ Admitted (agents_at s) (rows_at s)
+opened_counts s h = sound_admitted true s (admitted_sound true s h)
+
 pub opened : (s : List ℕ) {a : Result Counts Refusal} {k : Counts} → a ≡ admission_answer (admission true s) → a ≡ Ok k
     → (admission true s ≡ Admitted (agents_at s) (rows_at s)) × (s ≡ opened_part (admission true s) s)
 unfolding opened_part
 opened s e h =
-    let q = sound_admitted true s (admitted_sound true s (answer_admitted _ (sym e ∙ h))) in
+    let q = opened_counts s (answer_admitted _ (sym e ∙ h)) in
     (q, rw q refl)
 
 -- ---- one answer of what was opened and what its step gave
@@ -117,16 +122,21 @@ pub stepped_refused : (s : List ℕ) (i : ℕ) {x : Refusal} → admission true 
 unfolding stepped_at stepped step_result
 stepped_refused s i e = rw e refl
 
+pub stepped_is : (r : StepAnswer) (a : Admission) (t : List ℕ) (x : Option Entry) (s : List ℕ) (i : ℕ) → a ≡ admission true s
+    → t ≡ opened_part (admission true s) s → x ≡ step_at t i → r ≡ stepped a x (next_at t i) → r ≡ stepped_at s i
+unfolding stepped_at
+stepped_is r a t x s i admitted opened given answered = answered ∙ rw (given, opened, admitted) refl
+
 module _ (s : List ℕ) (i : ℕ) {t : List ℕ} {x : Option Entry} {next : ℕ} (admits : admission true s ≡ Admitted (agents_at s) (rows_at s))
     (whole : t ≡ opened_part (admission true s) s) (given : x ≡ step_at t i) (moves : next ≡ next_at t i) where
-  stepped_is : stepped_at s i ≡ stepped (Admitted (agents_at s) (rows_at s)) x next
+  stepped_whole : stepped_at s i ≡ stepped (Admitted (agents_at s) (rows_at s)) x next
   unfolding stepped_at
-  stepped_is = rw (← whole, ← given, ← moves, admits) refl
+  stepped_whole = rw (← whole, ← given, ← moves, admits) refl
 
   pub stepped_row : {e : Entry} → x ≡ Some e → Ok (answer.Row e next) ≡ step_result (stepped_at s i)
   unfolding stepped step_result
-  stepped_row h = rw (stepped_is, h) refl
+  stepped_row h = rw (stepped_whole, h) refl
 
   pub stepped_end : x ≡ None → Ok (answer.End next) ≡ step_result (stepped_at s i)
   unfolding stepped step_result
-  stepped_end h = rw (stepped_is, h) refl
+  stepped_end h = rw (stepped_whole, h) refl

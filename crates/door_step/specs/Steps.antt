@@ -51,7 +51,7 @@ steps_of r n = let q = moved_by n r in step_at q.table.now q.at
 abbrev pub rows_left : RowReader → ℕ
 rows_left r = rows_at r.table.now - r.at
 
--- what `open` gives of a table: a reader of it at place 0 where a fill admits it, else the refusal
+-- what `try_open` gives of a table: a reader of it at place 0 where a fill admits it, else the refusal
 abbrev pub OpenGives : List ℕ → Result RowReader Refusal → Type 0
 OpenGives s answer =
     MatchResult answer

@@ -5,15 +5,22 @@
 ghost use Rattle.std.specs.Prelude.{◌≡◌, true};
 ghost use Rattle.std.specs.Iterator.{at_most};
 ghost use Rattle.model.specs.Refusal.{admission, admission_answer};
-ghost use Rattle.door_step.specs.Steps.{step_at, next_at, moved, rows_left, OpenGives, stepped_at, step_result};
+ghost use Rattle.door_step.specs.Steps.{step_at, next_at, opened_part, moved, rows_left, OpenGives, stepped_at, step_result};
 
 use door_rows::bytes;
-use model::{Counts, Entry, Refusal};
+use model::{Admission, Counts, Entry, Refusal};
 
 #[derive(Clone, Copy)]
 pub struct RowReader<'a> {
     pub table: &'a [u8],
     pub at: u16,
+}
+
+// What a fill says of a table, and a reader of it: of a table that is refused the reader has no rows.
+#[derive(Clone, Copy)]
+pub struct Opened<'a> {
+    pub admission: Admission,
+    pub reader: RowReader<'a>,
 }
 
 // What a step from a place comes to: the row there and the next place, or the end and its place.
@@ -56,13 +63,43 @@ pub fn opening(table: &[u8]) -> Result<Counts, Refusal>
     door_admit::admit(table, true)
 }
 
-// Opens a table that a fill admits, 11 aside; any other gets its refusal.
+// The table where it is admitted, else none of it.
+// Ruled out: one that hands out a table that is refused; one that keeps one back that is admitted.
+pub fn opened_part(table: &[u8], a: Admission) -> &[u8]
+    ensures { result.now ≡ opened_part a table.now }
+{
+    let Admission::Admitted { agents: _, rows: _ } = a else {
+        return &table[..0];
+    };
+    table
+}
+
+// Opens a table that a fill admits, 11 aside; the reader of any other has no rows.
 // Ruled out: one that opens a table with a faulty row up to that row; one that refuses a blank.
-pub fn open(table: &[u8]) -> Result<RowReader<'_>, Refusal>
+pub fn open<'a>(table: &'a [u8]) -> Opened<'a>
+    ensures { (result.admission ≡ admission true table.now)
+        × (result.reader.table.now ≡ opened_part (admission true table.now) table.now)
+        × (result.reader.at ≡ 0) }
+{
+    let a = Admission::of(opening(table));
+    let part = opened_part(table, a);
+    Opened {
+        admission: a,
+        reader: RowReader { table: part, at: 0 },
+    }
+}
+
+// Opens a table that a fill admits, 11 aside; any other gets its refusal, and no reader.
+// Ruled out: one that opens a table with a faulty row up to that row; one that refuses a blank.
+pub fn try_open(table: &[u8]) -> Result<RowReader<'_>, Refusal>
     ensures { OpenGives table.now result }
 {
-    opening(table)?;
-    Ok(RowReader { table, at: 0 })
+    let opened = open(table);
+    let a = opened.admission;
+    let Admission::Admitted { agents: _, rows: _ } = a else {
+        return Err(model::refusal_of(a));
+    };
+    Ok(opened.reader)
 }
 
 impl Iterator for RowReader<'_> {
@@ -87,7 +124,7 @@ impl Iterator for RowReader<'_> {
 pub fn step_from(table: &[u8], at: u16) -> Result<Stepped, Refusal>
     ensures { result ≡ step_result (stepped_at table.now at) }
 {
-    let mut reader = open(table)?;
+    let mut reader = try_open(table)?;
     reader.at = at;
     let step = reader.next();
     let next = reader.at;

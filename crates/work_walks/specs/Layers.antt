@@ -3,6 +3,7 @@
 use Rattle.std.specs.Prelude.{◌≡◌, Bool, List, ℕ, suc, ◌+◌, ◌*◌, ◌≤◌, ◌<◌}
 use Rattle.std.proofs.Math.Path.{ap}
 use Rattle.std.proofs.Common.{suc-mul, arith}
+use native.Mathlib.Nat.{mul-le-mul_right}
 use Rattle.finite.specs.Logic.{◌and◌}
 use Rattle.finite.specs.Below.{any_below, least, least_cong}
 use Rattle.finite.specs.Walk.{walk}
@@ -56,6 +57,14 @@ pub record Returns (steps layers stride n x r : ℕ) (w : List ℕ) : Type 0 whe
   pub bound : r ≤ n
 
 -- ---- laws
+
+-- steps that stand before the layers for as many numbers as a row has bits do so for fewer
+pub room_apart : (steps layers stride : ℕ) {n size : ℕ} → steps + 64 * stride * stride ≤ layers → Room layers stride n size → steps + n * stride ≤ layers
+room_apart steps layers stride far room = omega (arith, mul-le-mul_right stride room.0)
+
+-- so that they are laid
+pub room_laid : (steps layers stride : ℕ) {n size : ℕ} → steps + 64 * stride * stride ≤ layers → Room layers stride n size → Laid steps layers stride n size
+room_laid steps layers stride far room = record { room = room; apart = room_apart steps layers stride far room }
 
 -- the place of a bit of layer k + 1
 pub after_place : (layers stride k z : ℕ) → (layers + suc k * stride) * 64 + z ≡ after layers stride k + z

@@ -160,6 +160,12 @@ module _ (b : List ℕ) (p : List (List ℕ)) (mode : Mode) (n m k : ℕ) (r : R
         told true = refl
         told false = refl
 
+    pub judged_accepted : d ≡ true → Ok true ≡ accept_answer (judged (decode b p mode n) m k r steps)
+    judged_accepted g = ap Ok (sym g) ∙ judged_told
+
+    pub judged_other : d ≡ false → Ok false ≡ accept_answer (judged (decode b p mode n) m k r steps)
+    judged_other g = ap Ok (sym g) ∙ judged_told
+
 -- ---- laws: the entry point
 
 -- the reader takes no buffers, so that no length is short

@@ -3,10 +3,10 @@ use Rattle.std.specs.Prelude.{Option, None, Some, IsSome, MatchOption, ◌≡◌
 use Rattle.std.proofs.Common.{subst, sym, ap, ap₂, ◌∙◌, ⊎_elim, arith, eq-eqb, ne_eqb, lt-ltb, le-ltb}
 use Rattle.std.proofs.Math.Decide.{dec_lt, ℕ_discrete}
 use Rattle.std.specs.Int.Bits.{bit_and, bit_or}
-use Rattle.std.specs.Int.Count.{ones, count_trailing_zeros}
+use Rattle.std.specs.Int.Count.{ones, count_trailing_zeros, trailing_of_zero}
 use Rattle.std.proofs.lemmas.Nat.{ones-le}
 use Rattle.finite.specs.Logic.{◌and◌, which, not_both, not_in, or_false, and_false_right, and_on_right}
-use Rattle.finite.specs.Below.{any_below, any_in, any_out, least, least_is, least_hit, least_unique}
+use Rattle.finite.specs.Below.{any_below, any_in, any_out, least, least_is, least_hit, least_unique, least_off}
 use Rattle.finite.specs.Count.{count_below, count_cong}
 use Rattle.model.specs.Limits.{ROWS}
 use Rattle.bits.specs.Bit.{bit_of, bit_of_zero, bit_of_or}
@@ -131,6 +131,21 @@ first_high a e p l = record { bound = omega (arith, s); hit = in_high a t s ∙ 
     before k h (no q) =
         let g : k ≡ 64 + (k - 64) = omega arith in
         ap (in_set a) g ∙ in_high a (k - 64) (omega (arith, s)) ∙ f.miss (k - 64) (omega arith)
+
+-- the first by words, or ROWS where there is none
+pub least_low_word : (a : Set) → 0 < a.lo → a.lo < 2 ^ 64 → (count_trailing_zeros 64 a.lo ≡ next a) × (count_trailing_zeros 64 a.lo ≤ ROWS)
+least_low_word a p l = let f = first_low a p l in let b = f.bound in (sym (first_next f), omega arith)
+
+pub least_high_word : (a : Set) → a.lo ≡ 0 → a.hi < 2 ^ 64 → (64 + count_trailing_zeros 64 a.hi ≡ next a) × (64 + count_trailing_zeros 64 a.hi ≤ ROWS)
+least_high_word a e l = go (dec_lt 0 a.hi)
+  where
+    go : Dec (0 < a.hi) → (64 + count_trailing_zeros 64 a.hi ≡ next a) × (64 + count_trailing_zeros 64 a.hi ≤ ROWS)
+    go (yes p) = let f = first_high a e p l in let b = f.bound in (sym (first_next f), omega arith)
+    go (no p) =
+        let z : a.hi ≡ 0 = omega arith in
+        let t : count_trailing_zeros 64 a.hi ≡ 64 = ap (count_trailing_zeros 64) z ∙ trailing_of_zero 64 in
+        let n : next a ≡ ROWS = least_off (in_set a) ROWS (λ k h. none_in a e z k) in
+        (omega arith, omega arith)
 
 -- a set with a first has a member
 pub first_any : {x : Set} {i : ℕ} → First x i → any_below ROWS (in_set x) ≡ true

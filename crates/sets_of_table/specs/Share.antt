@@ -1,7 +1,7 @@
 -- From which scope on two agents share; and, for each agent and scope, the rows of agents that share it. Assumes nothing.
-use Rattle.std.specs.Prelude.{◌≡◌, refl, Bool, true, false, not, List, [], ℕ, zero, suc, ◌+◌, ◌-◌, ◌*◌, ◌≤◌, ◌<◌, length, get_or, eqb, ltb, leb}
+use Rattle.std.specs.Prelude.{◌≡◌, refl, Bool, true, false, not, List, [], ℕ, zero, suc, ◌+◌, ◌-◌, ◌*◌, ◌≤◌, ◌<◌, length, get_or, set, eqb, ltb, leb}
 use Rattle.std.proofs.Math.Path.{sym}
-use Rattle.std.proofs.Common.{ap, ap₂, subst, ◌∙◌, arith, add-one, eq-eqb, ne_eqb, eqb-true, ltb-true, lt-ltb, le-ltb, le-leb}
+use Rattle.std.proofs.Common.{ap, ap₂, subst, ◌∙◌, arith, add-one, get_or-set_same, get_or-set_other, eq-eqb, ne_eqb, eqb-true, ltb-true, lt-ltb, le-ltb, le-leb}
 use Rattle.std.proofs.Math.Decide.{dec_lt, ℕ_discrete}
 use Rattle.std.proofs.lemmas.Bool.{lt-leb}
 use Rattle.finite.specs.Logic.{◌and◌, ◌or◌, bool_ext, not_both, and_true, split, or_off, and_false_left, and_false_right}
@@ -41,6 +41,15 @@ pub record Level (p : List (List ℕ)) (a b l : ℕ) : Type 0 where
 -- the same of agent a with each of the first m
 pub record Levels (p : List (List ℕ)) (a m : ℕ) (l : List ℕ) : Type 0 where
   pub each : (b : ℕ) → b < m → Level p a b (get_or l b 0)
+
+-- ---- laws: levels
+
+pub levels_more : {p : List (List ℕ)} {a m : ℕ} {l : List ℕ} (v : ℕ) → m < length l → Levels p a m l → Level p a m v → Levels p a (m + 1) (set l m v)
+levels_more {p} {a} {m} {l} v room h d = record { each = λ b o. go b o (ℕ_discrete b m) }
+  where
+    go : (b : ℕ) → b < m + 1 → Dec (b ≡ m) → Level p a b (get_or (set l m v) b 0)
+    go b o (yes e) = subst (λ (k : ℕ). Level p a k (get_or (set l m v) k 0)) (sym e) (subst (λ (k : ℕ). Level p a m k) (sym (get_or-set_same l m v 0 room)) d)
+    go b o (no e) = subst (λ (k : ℕ). Level p a b k) (sym (get_or-set_other l m b v 0 e)) (h.each b (omega (arith, o, e)))
 
 pub level_alien : (p : List (List ℕ)) (a b : ℕ) → (not (eqb (get_or (get_or p b []) 3 0) 0) or not (eqb (get_or (get_or p a []) 3 0) 0)) ≡ true → Level p a b 5
 level_alien p a b h =

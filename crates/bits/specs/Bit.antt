@@ -99,6 +99,14 @@ pub bit_word : (u w : List ℕ) (k : ℕ) → get_or u (k / 64) 0 ≡ get_or w (
 unfolding bit
 bit_word u w k e = ap (λ (x : ℕ). bit_of x (k % 64)) e
 
+-- bit k of the words from word `at` on stands in word at + k / 64
+pub bit_from : (w : List ℕ) (at k : ℕ) → bit w (at * 64 + k) ≡ bit_of (get_or w (at + k / 64) 0) (k % 64)
+unfolding bit
+bit_from w at k =
+    let word : (at * 64 + k) / 64 ≡ at + k / 64 = omega arith in
+    let place : (at * 64 + k) % 64 ≡ k % 64 = omega arith in
+    rw (word, place) refl
+
 pub length_set_bit : (w : List ℕ) (k : ℕ) → length (set_bit w k) ≡ length w
 unfolding set_bit
 length_set_bit w k = simp length-set
@@ -170,6 +178,14 @@ zeros_out w from (suc n) x h =
 pub bit_zeros_in : (w : List ℕ) (from n k : ℕ) → from + n ≤ length w → 64 * from ≤ k → k < 64 * (from + n) → bit (zeros w from n) k ≡ false
 unfolding bit
 bit_zeros_in w from n k l a b = ap (λ (x : ℕ). bit_of x (k % 64)) (zeros_in w from n (k / 64) l (omega arith) (omega arith)) ∙ bit_of_zero (k % 64)
+
+-- one word more is cleared
+pub zeros_more : (w₀ w : List ℕ) (from i : ℕ) → from ≤ i → w ≡ zeros w₀ from (i - from) → set w i 0 ≡ zeros w₀ from (i + 1 - from)
+unfolding zeros
+zeros_more w₀ w from i h e =
+    let a : i + 1 - from ≡ suc (i - from) = omega arith in
+    let b : from + (i - from) ≡ i = omega arith in
+    rw (e, a, b)
 
 -- words that are cleared all at once
 pub zeros_filled : (w : List ℕ) (from n : ℕ) → from + n ≤ length w → put_mid from n w (replicate n 0) ≡ zeros w from n

@@ -15,6 +15,15 @@ pub fn get(w: &[u64], k: usize) -> bool
     (w[k / 64] >> (k % 64)) % 2 == 1
 }
 
+// Whether bit k of the words from word `at` on is set.
+// Ruled out: one that reads bit k % 32 of the word; one that takes `at` for a number of bits.
+pub fn get_at(w: &[u64], at: usize, k: usize) -> bool
+    requires { at * 64 + k < 64 * length w.now }
+    ensures { result ≡ bit w.now (at * 64 + k) }
+{
+    (w[at + k / 64] >> (k % 64)) % 2 == 1
+}
+
 // Sets bit k.
 // Ruled out: one that loses the other bits of the word; one that turns a set bit off.
 pub fn put(w: &mut [u64], k: usize)
@@ -66,7 +75,7 @@ pub fn close(w: &mut [u64], base: usize, n: usize, stride: usize)
         let src = base + k * stride;
         for i in 0..n {
             let dst = base + i * stride;
-            if get(w, dst * 64 + k) {
+            if get_at(w, dst, k) {
                 join_row(w, dst, src, stride);
             }
         }

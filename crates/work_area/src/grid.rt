@@ -70,7 +70,7 @@ impl<const STRIDE: usize> Grid<STRIDE> {
         requires { (self.base + i * STRIDE ≤ AREA_LIMIT) × (j ≤ AREA_LIMIT) × ((self.base + i * STRIDE) * 64 + j < 64 * length w.now) }
         ensures { result ≡ bit w.now ((self.entry.base + i * STRIDE) * 64 + j) }
     {
-        bits::get(w, self.at(i) * 64 + j)
+        bits::get_at(w, self.at(i), j)
     }
 
     // Sets it.

@@ -3,7 +3,7 @@ use native.Mathlib.Omega.{arith}
 use Rattle.bits.specs.Matrix.{rel, row_apart, rows_apart}
 use Rattle.bits.proofs.Rounds.{phase_none, phase_skip, phase_join, rounds_none, rounds_more, rounds_closed}
 use Rattle.bits.proofs.close.Goals as goal
-use Rattle.bits.proofs.close.Goals.{then-get, else-get}
+use Rattle.bits.proofs.close.Goals.{then-get_at, else-get_at}
 
 pub loop-k-init : goal.loop-k-init
 loop-k-init c = rounds_none _ _ _ _
@@ -27,8 +27,8 @@ overflow_add-dst c =
     let a = c.args in
     omega (arith, row_apart c.loop-i.i a.n a.stride c.loop-i-test.true)
 
-pub get-requires : goal.get-requires
-get-requires c =
+pub get_at-requires : goal.get_at-requires
+get_at-requires c =
     let a = c.args in
     let row_i = row_apart c.loop-i.i a.n a.stride c.loop-i-test.true in
     let row_k = row_apart c.loop-k.k a.n a.stride c.loop-k-test.true in
@@ -54,11 +54,11 @@ loop-i-preserved c =
     let below_i = c.loop-i-test.true in
     let below_k = c.loop-k-test.true in
     let fits = c.requires.2 in
-    let test = sym c.get.ensures in
-    elim c.if-get.branch [
-      | then-get v ↦
-          phase_join c.loop-k.w w a.base a.n a.stride k i inv below_i below_k fits c.if-get.w (omega arith) (v.w-is ∙ v.join_row.ensures) (test ∙ v.if-get.true)
-      | else-get v ↦ rw v.w-is (phase_skip c.loop-k.w w a.base a.n a.stride k i inv below_i below_k fits (test ∙ v.if-get.false))
+    let test = sym c.get_at.ensures in
+    elim c.if-get_at.branch [
+      | then-get_at v ↦
+          phase_join c.loop-k.w w a.base a.n a.stride k i inv below_i below_k fits c.if-get_at.w (omega arith) (v.w-is ∙ v.join_row.ensures) (test ∙ v.if-get_at.true)
+      | else-get_at v ↦ rw v.w-is (phase_skip c.loop-k.w w a.base a.n a.stride k i inv below_i below_k fits (test ∙ v.if-get_at.false))
     ]
 
 pub loop-k-preserved : goal.loop-k-preserved

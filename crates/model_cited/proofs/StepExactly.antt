@@ -1,6 +1,6 @@
 -- A step gives each answer exactly when its case holds: the proofs of Stepping.antt. Assumes nothing.
 use Rattle.std.specs.Prelude.{◌≡◌, refl, List, ◌⊎◌, ◌↔◌, ℕ, ◌+◌, ◌*◌, ◌≤◌, ◌<◌, take, drop}
-use Rattle.std.proofs.Common.{sym, ◌∙◌, subst, inl, inr, arith}
+use Rattle.std.proofs.Common.{sym, ap, ◌∙◌, subst, inl, inr, arith}
 use Rattle.std.proofs.Math.Decide.{dec_lt}
 use Rattle.model.specs.declared.{Row.Row, Source.Source}
 use Rattle.model.specs.Table.{row_of, source_of}
@@ -8,16 +8,52 @@ use Rattle.model.specs.Header.{ROW_BYTES, agents_at, rows_at, row_bytes}
 use Rattle.door_write.specs.Encode.{row_list}
 use Rattle.door_write.specs.Promise.{row_bytes_again}
 use Rattle.door_step.specs.declared.RowReader.{RowReader}
+use Rattle.door_step.specs.declared.Stepped.{Stepped}
+use Rattle.std.specs.declared.result.Result.{Result}
+use Rattle.std.specs.declared.result.Result.TheVariants.{Ok, Err}
+use Rattle.model.specs.declared.Refusal.{Refusal}
+use Rattle.model.specs.Refusal.{refusal}
 use Rattle.std.specs.declared.option.Option.{Option}
 use Rattle.std.specs.declared.option.Option.TheVariants.{None, Some}
 use Rattle.model.specs.declared.Entry.{Entry}
 use Rattle.door_step.specs.Steps.{StepAnswer}
-use Rattle.door_step.specs.Steps.{steps_of, stepped_at}
+use Rattle.door_step.specs.Steps.{steps_of, stepped_at, step_result}
 use Rattle.door_step.specs.Promise.{opened_rows, opened_end, refused_end, from_refused, from_row_lem, from_end}
 use Rattle.model_promises.specs.Terms.{Bytes, Fillable, Unfillable}
 use Rattle.model_cited.specs.Terms.{source, Opens}
 use Rattle.model_cited.specs.Tables.{fillable_or}
 use Rattle.model_cited.specs.StepExactly.{Means}
+
+-- ---- the result that a program gets
+
+-- the answer, from the result
+abbrev stepped_in : Result Stepped Refusal → StepAnswer
+stepped_in (Err r) = StepAnswer.Refused r.number r.row
+stepped_in (Ok (Stepped.Row e next)) = StepAnswer.Row e.row e.source next
+stepped_in (Ok (Stepped.End next)) = StepAnswer.End next
+
+stepped_back : (x : StepAnswer) → stepped_in (step_result x) ≡ x
+unfolding step_result
+stepped_back (StepAnswer.Refused n j) = refl
+stepped_back (StepAnswer.Row r c next) = refl
+stepped_back (StepAnswer.End next) = refl
+
+-- so a result is given exactly for what it is of
+result_exactly : (x y : StepAnswer) → (step_result x ≡ step_result y) ↔ (x ≡ y)
+result_exactly x y = (λ e. sym (stepped_back x) ∙ ap stepped_in e ∙ stepped_back y, λ e. ap step_result e)
+
+pub steps_refused : (x : StepAnswer) (n j : ℕ) → (step_result x ≡ Err (refusal n j)) ↔ (x ≡ StepAnswer.Refused n j)
+unfolding step_result
+steps_refused x n j = result_exactly x (StepAnswer.Refused n j)
+
+pub steps_row : (x : StepAnswer) (e : Entry) (next : ℕ)
+    → (step_result x ≡ Ok (Stepped.Row e next)) ↔ (x ≡ StepAnswer.Row e.row e.source next)
+unfolding step_result
+steps_row x e next = result_exactly x (StepAnswer.Row e.row e.source next)
+
+pub steps_end : (x : StepAnswer) (next : ℕ) → (step_result x ≡ Ok (Stepped.End next)) ↔ (x ≡ StepAnswer.End next)
+unfolding step_result
+steps_end x next = result_exactly x (StepAnswer.End next)
 
 -- ---- a step
 

@@ -4,13 +4,15 @@
 use Rattle.std.specs.Prelude.{◌≡◌, List, ◌↔◌, ℕ, ◌*◌, ◌≤◌, take, drop}
 use Rattle.model.specs.declared.{Row.Row, Source.Source}
 use Rattle.model.specs.Header.{ROW_BYTES, row_bytes}
+use Rattle.model.specs.Refusal.{refusal}
 use Rattle.door_write.specs.Encode.{row_list}
-use Rattle.door_step.specs.declared.RowReader.{RowReader}
+use Rattle.door_step.specs.declared.{RowReader.RowReader, Stepped.Stepped}
 use Rattle.std.specs.declared.option.Option.{Option}
 use Rattle.std.specs.declared.option.Option.TheVariants.{None, Some}
+use Rattle.std.specs.declared.result.Result.TheVariants.{Ok, Err}
 use Rattle.model.specs.declared.Entry.{Entry}
 use Rattle.door_step.specs.Steps.{StepAnswer}
-use Rattle.door_step.specs.Steps.{steps_of, stepped_at}
+use Rattle.door_step.specs.Steps.{steps_of, stepped_at, step_result}
 use Rattle.model_promises.specs.Terms.{Bytes}
 use Rattle.model_cited.specs.Terms.{Opens}
 use Rattle.model_cited.specs.Stepping.{StepMeans, NextMeans}
@@ -30,6 +32,14 @@ module _ (s : List ℕ) (i : ℕ) where
   pub next_means : (r : RowReader) → Opens s r → (x : Option Entry) → (steps_of r i ≡ x) ↔ NextMeans s i x
   next_means r o (Some e) = beside.StepExactly.next_exactly s i r o (Some e)
   next_means r o None = beside.StepExactly.next_exactly s i r o None
+
+-- ==== A program's result: each case is given exactly for its answer, with its numbers
+
+-- a step: `Err` is its refusal, `Ok` the row with its source and the place after it, or the end and its place
+pub step_cases : (x : StepAnswer) → ((n j : ℕ) → (step_result x ≡ Err (refusal n j)) ↔ (x ≡ StepAnswer.Refused n j))
+    × ((e : Entry) (next : ℕ) → (step_result x ≡ Ok (Stepped.Row e next)) ↔ (x ≡ StepAnswer.Row e.row e.source next))
+    × ((next : ℕ) → (step_result x ≡ Ok (Stepped.End next)) ↔ (x ≡ StepAnswer.End next))
+step_cases x = (beside.StepExactly.steps_refused x, beside.StepExactly.steps_row x, beside.StepExactly.steps_end x)
 
 -- ==== What follows
 

@@ -6,11 +6,16 @@ use Rattle.std.proofs.Math.Decide.{dec_lt}
 use Rattle.std.proofs.Math.ListN.{length}
 use Rattle.std.proofs.Math.Seq.{drop_at}
 use Rattle.finite.specs.Logic.{which}
+use Rattle.std.specs.declared.result.Result.{Result}
+use Rattle.std.specs.declared.result.Result.TheVariants.{Ok, Err}
+use Rattle.model.specs.declared.Refusal.{Refusal}
+use Rattle.model.specs.Refusal.{refusal}
 use Rattle.door_write.specs.declared.Dependencies.{Dependencies}
 use Rattle.model.specs.declared.Entry.{Entry}
 use Rattle.door_write.specs.Answer.{WriteAnswer}
 use Rattle.door_write.specs.Encode.{table_size, encode, entries_in}
 use Rattle.door_write.specs.Answer.{version_known, counts_fit, numbers_fit, dependencies_fit, values_fault, write_answer, buffer_after}
+use Rattle.door_write.specs.Answer.{write_result}
 use Rattle.door_write.specs.ValueLaws.{Fits, values_fit, fit_values, encode_length}
 use Rattle.door_write.specs.EncodeLaws.{Typed}
 use Rattle.door_write.specs.AnswerLaws.{of_table, room_short, room_long, values_in, table_in_lem, admitted_in}
@@ -20,6 +25,32 @@ use Rattle.door_write.specs.Promise as page
 use Rattle.model_promises.specs.Terms.{Bytes, Fillable, Unfillable}
 use Rattle.model_cited.specs.Terms.{WriteRefuses, Says}
 use Rattle.model_cited.specs.Tables.{fillable_or, admitted_fillable}
+
+-- ---- the result that a program gets
+
+-- the answer, from the result
+abbrev written_in : Result ℕ Refusal → WriteAnswer
+written_in (Err r) = WriteAnswer.Refused r.number r.row
+written_in (Ok m) = WriteAnswer.Written m
+
+written_back : (a : WriteAnswer) → written_in (write_result a) ≡ a
+unfolding write_result
+written_back (WriteAnswer.Refused n i) = refl
+written_back (WriteAnswer.Written m) = refl
+
+-- so a result is given exactly for what it is of
+result_exactly : (a b : WriteAnswer) → (write_result a ≡ write_result b) ↔ (a ≡ b)
+result_exactly a b = (λ e. sym (written_back a) ∙ ap written_in e ∙ written_back b, λ e. ap write_result e)
+
+pub writes_refused : (a : WriteAnswer) (n i : ℕ) → (write_result a ≡ Err (refusal n i)) ↔ (a ≡ WriteAnswer.Refused n i)
+unfolding write_result
+writes_refused a n i = result_exactly a (WriteAnswer.Refused n i)
+
+pub writes_written : (a : WriteAnswer) (m : ℕ) → (write_result a ≡ Ok m) ↔ (a ≡ WriteAnswer.Written m)
+unfolding write_result
+writes_written a m = result_exactly a (WriteAnswer.Written m)
+
+-- ---- the answer
 
 module _ (version agents : ℕ) (p : List (List ℕ)) (rows : ℕ) (l : List Entry) (d : Dependencies) (room : ℕ) where
   abbrev t : List ℕ

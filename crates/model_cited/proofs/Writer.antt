@@ -2,8 +2,10 @@
 -- crates/model_promises/specs/Main.antt: each proof names a theorem of a page beside this one or of
 -- specs/ReadExactly.antt. The notation, the words and the meanings are those of specs/Writer.antt.
 use Rattle.std.specs.Prelude.{◌≡◌, true, false, List, ◌↔◌, ℕ, ◌*◌, ◌≤◌, ◌<◌, length, take, drop}
+use Rattle.std.specs.declared.result.Result.TheVariants.{Ok, Err}
 use Rattle.model.specs.Limits.{ROWS}
-use Rattle.door_write.specs.declared.Dependencies.{Dependencies}
+use Rattle.model.specs.Refusal.{refusal}
+use Rattle.door_write.specs.declared.{Dependencies.Dependencies, Sizes.Sizes}
 use Rattle.model.specs.declared.Entry.{Entry}
 use Rattle.door_write.specs.Answer.{WriteAnswer}
 use Rattle.door_write.specs.Read.{ReadAnswer}
@@ -11,6 +13,7 @@ use Rattle.model.specs.Table.{row_of, source_of}
 use Rattle.model.specs.Header.{ROW_BYTES, version_at, agents_at, rows_at, places_of, row_bytes}
 use Rattle.door_write.specs.Encode.{row_list, rows_part, encode, entries_in, entries_of, dependencies_of}
 use Rattle.door_write.specs.Answer.{version_known, counts_fit, numbers_fit, dependencies_fit, write_answer, buffer_after}
+use Rattle.door_write.specs.Answer.{write_result}
 use Rattle.door_write.specs.ValueLaws.{Fits}
 use Rattle.door_write.specs.EncodeLaws.{Typed}
 use Rattle.door_write.specs.AnswerLaws.{of_table}
@@ -18,6 +21,7 @@ use Rattle.door_write.specs.PastLaws.{Alike}
 use Rattle.door_write.specs.Parts.{PLACE_NUMBERS, agents_in, places_in, rows_in, dependencies_in, parts_answer, parts_table}
 use Rattle.door_write.specs.PartsLaws.{Numbers}
 use Rattle.door_write.specs.Read.{place_numbers, end_numbers, lent_fit, read_answer, places_after, rows_after, dependencies_after}
+use Rattle.door_write.specs.Read.{read_result}
 use Rattle.door_write.specs.Promise.{past_bytes, past_answer, parts_rows}
 use Rattle.model_promises.specs.Terms.{Bytes, Fillable, Unfillable}
 use Rattle.model_cited.specs.Terms.{Says}
@@ -52,6 +56,18 @@ module _ (s : List ℕ) (places rows dependencies : ℕ) where
       reading.read_exactly s places rows dependencies (ReadAnswer.Refused n i)
   read_means (ReadAnswer.Read v a n m) =
       reading.read_exactly s places rows dependencies (ReadAnswer.Read v a n m)
+
+-- ==== A program's result: each case is given exactly for its answer, with its numbers
+
+-- a write, of values or of lent parts: `Err` is its refusal, `Ok` how many bytes are written
+pub write_cases : (a : WriteAnswer) → ((n i : ℕ) → (write_result a ≡ Err (refusal n i)) ↔ (a ≡ WriteAnswer.Refused n i))
+    × ((m : ℕ) → (write_result a ≡ Ok m) ↔ (a ≡ WriteAnswer.Written m))
+write_cases a = (beside.WriteExactly.writes_refused a, beside.WriteExactly.writes_written a)
+
+-- a reading into lent parts: `Err` is its refusal, `Ok` the version and the three counts
+pub read_cases : (a : ReadAnswer) → ((n i : ℕ) → (read_result a ≡ Err (refusal n i)) ↔ (a ≡ ReadAnswer.Refused n i))
+    × ((z : Sizes) → (read_result a ≡ Ok z) ↔ (a ≡ ReadAnswer.Read z.version z.agents z.rows z.dependencies))
+read_cases a = (reading.reads_refused a, reading.reads_sizes a)
 
 -- ==== What is written reads back as what was given, and what was read is written as it stood
 

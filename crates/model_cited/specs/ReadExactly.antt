@@ -4,12 +4,16 @@ use Rattle.std.specs.Prelude.{◌≡◌, true, false, List, ◌⊎◌, ◌↔◌
 use Rattle.std.proofs.Math.Path.{refl}
 use Rattle.std.proofs.Common.{sym, ap, ◌∙◌, subst, inl, inr}
 use Rattle.finite.specs.Logic.{which}
+use Rattle.std.specs.declared.result.Result.{Result}
+use Rattle.std.specs.declared.result.Result.TheVariants.{Ok, Err}
+use Rattle.model.specs.declared.Refusal.{Refusal}
 use Rattle.model.specs.Table.{row_of, source_of}
 use Rattle.model.specs.Header.{ROW_BYTES, version_at, agents_at, rows_at, places_of, row_bytes}
 use Rattle.model.specs.Table.{dependency_count}
 use Rattle.model.specs.Header.{dependency_bytes}
-use Rattle.model.specs.Refusal.{when_admitted}
+use Rattle.model.specs.Refusal.{refusal, when_admitted}
 use Rattle.model_laws.specs.AdmissionLaws.{admitted_sound}
+use Rattle.door_write.specs.declared.Sizes.{Sizes}
 use Rattle.door_write.specs.Answer.{WriteAnswer}
 use Rattle.door_write.specs.Read.{ReadAnswer}
 use Rattle.door_write.specs.Encode.{row_list, encode, entries_of, dependencies_of}
@@ -17,10 +21,36 @@ use Rattle.door_write.specs.Answer.{write_answer}
 use Rattle.door_write.specs.Parts.{PLACE_NUMBERS, agents_in, rows_in, dependencies_in, parts_answer, parts_table}
 use Rattle.door_write.specs.PartsLaws.{Numbers}
 use Rattle.door_write.specs.Read.{place_numbers, end_numbers, lent_fit, read_answer, places_after, rows_after, dependencies_after}
+use Rattle.door_write.specs.Read.{read_result}
 use Rattle.door_write.specs.BackLaws.{given_in, places_after_lem, dependencies_after_lem, fronted_front, numbers_long, ends_long}
 use Rattle.door_write.specs.Promise as page
 use Rattle.model_promises.specs.Terms.{Bytes, Fillable, Unfillable}
 use Rattle.model_cited.specs.Tables.{fillable_or}
+
+-- ---- the result that a program gets
+
+-- the answer, from the result
+abbrev read_in : Result Sizes Refusal → ReadAnswer
+read_in (Err r) = ReadAnswer.Refused r.number r.row
+read_in (Ok z) = ReadAnswer.Read z.version z.agents z.rows z.dependencies
+
+read_in_back : (a : ReadAnswer) → read_in (read_result a) ≡ a
+unfolding read_result
+read_in_back (ReadAnswer.Refused n i) = refl
+read_in_back (ReadAnswer.Read v a n m) = refl
+
+-- so a result is given exactly for what it is of
+result_exactly : (a b : ReadAnswer) → (read_result a ≡ read_result b) ↔ (a ≡ b)
+result_exactly a b = (λ e. sym (read_in_back a) ∙ ap read_in e ∙ read_in_back b, λ e. ap read_result e)
+
+pub reads_refused : (a : ReadAnswer) (n i : ℕ) → (read_result a ≡ Err (refusal n i)) ↔ (a ≡ ReadAnswer.Refused n i)
+unfolding read_result
+reads_refused a n i = result_exactly a (ReadAnswer.Refused n i)
+
+pub reads_sizes : (a : ReadAnswer) (z : Sizes)
+    → (read_result a ≡ Ok z) ↔ (a ≡ ReadAnswer.Read z.version z.agents z.rows z.dependencies)
+unfolding read_result
+reads_sizes a z = result_exactly a (ReadAnswer.Read z.version z.agents z.rows z.dependencies)
 
 -- ---- the answer
 

@@ -14,9 +14,11 @@
 -- From a function to its meaning: the contract of a function is an equation. This page speaks of its right side:
 --   door_step::step_from        is `step_result (stepped_at s i)`: a reader opened on the table s, put at place i, and one
 --     step of it
---   door_step::open             gives a reader r with `Opens s r` of a table that a fill admits, and of any other its refusal
+--   door_step::open             says `admission true s` and gives a reader r with `Opens s r`
+--   door_step::try_open         gives that reader r of a table that a fill admits, and of any other its refusal
 --   door_step::RowReader::next  is `steps_of r i` at call i, counted from 0
--- crates/stramashly_numbers/specs/Main.antt has the number that C gets for a step, and what its buffer then holds.
+-- `step_cases` (proofs/Stepping.antt) has each case of a step's result; crates/stramashly_numbers/specs/Main.antt the
+-- number that C gets for a step, and what its buffer then holds.
 use Rattle.std.specs.Prelude.{◌≡◌, List, ◌⊎◌, ℕ, ◌+◌, ◌≤◌, ◌<◌}
 use Rattle.model.specs.Table.{row_of, source_of}
 use Rattle.model.specs.Header.{rows_at, row_bytes}

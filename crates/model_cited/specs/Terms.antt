@@ -1,4 +1,5 @@
--- The words of Pieces.antt, Writer.antt and Stepping.antt. Those of the promises are in promises/specs/Terms.antt.
+-- The words of Pieces.antt, Writer.antt and Stepping.antt. Those of the promises are in
+-- crates/model_promises/specs/Terms.antt.
 use Rattle.std.specs.Prelude.{◌≡◌, true, false, List, [], ℕ, ◌%◌, ◌≤◌, ◌<◌, length, get_or}
 use Rattle.model.specs.declared.Admission.TheVariants.{Admitted}
 use Rattle.model.specs.declared.Source.{Source}

@@ -18,10 +18,12 @@
 --
 -- From a function to its meaning: the contract of a function is an equation. This page speaks of its right side:
 --   door_write::write is `write_result (write_answer …)`, and leaves `buffer_after (write_answer …) (encode …) out`
---   door_write::parts::write_parts is `write_result (parts_answer …)`, and leaves `buffer_after (parts_answer …) (parts_table …) out`
+--   door_write::parts::write_parts is `write_result (parts_answer …)`, and leaves
+--     `buffer_after (parts_answer …) (parts_table …) out`
 --   door_write::read::read_parts is `read_result (read_answer …)`, and leaves `places_after …`, `rows_after …` and
 --     `dependencies_after …`
 --   door_write::read::read_entries is `entries_of s`, read_dependencies `dependencies_of s`
+-- `write_cases` and `read_cases` (proofs/Writer.antt) have each case of these results;
 -- crates/stramashly_numbers/specs/Main.antt has the number that C gets.
 use Rattle.std.specs.Prelude.{◌≡◌, true, false, List, ◌⊎◌, ℕ, ◌≤◌, length}
 use Rattle.door_write.specs.declared.Dependencies.{Dependencies}

@@ -58,7 +58,7 @@ pub fn show_cycle(t: &Run, src: &[u16], x: usize, w: &mut [u64], c: &mut [u16]) 
         × (c.new ≡ cycle_after (cyclic (cycle_rows table (source_in src.now)) (cycle_edges table (source_in src.now))) c.old)
         × Within LAYERS LAYERS_END w.old w.new }
 {
-    let size = work_walks::EDGES.fill_until(w, t.rows, x) + 1;
+    let size = work_walks::apart::EDGES.fill_until(w, t.rows, x) + 1;
     clear_numbers(c);
     find_cycle::write_rows(w, t.rows, x, size, c);
     write_edges(t, src, x, size, w, c);

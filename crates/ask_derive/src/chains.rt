@@ -35,7 +35,7 @@ pub fn find_set(t: &Run, first: usize, second: usize, w: &mut [u64]) -> u8
 {
     for c in 0..cases::CLASS_SETS {
         layers::make_layers(t, c + 1, second, w);
-        let j = work_walks::STEPS.layer_of(w, 3 * t.rows, first);
+        let j = work_walks::apart::STEPS.layer_of(w, 3 * t.rows, first);
         if j < 3 * t.rows {
             return c;
         }
@@ -99,7 +99,7 @@ pub fn write_steps(
 {
     let mut z = first;
     for i in 0..size {
-        let y = work_walks::STEPS.next(w, 3 * t.rows, size - i - 1, z);
+        let y = work_walks::apart::STEPS.next(w, 3 * t.rows, size - i - 1, z);
         c[i] = step_number(t, s, z, y, w);
         z = y;
     }

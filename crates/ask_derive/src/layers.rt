@@ -15,5 +15,5 @@ pub fn make_layers(t: &Run, s: u8, x: usize, w: &mut [u64])
     ensures { MadeLayered (table_of t.now) t.now.rows s x w.old w.new }
 {
     flags_order::steps::fill_step(t, s, w);
-    work_walks::STEPS.fill_layers(w, 3 * t.rows, x);
+    work_walks::apart::STEPS.fill_layers(w, 3 * t.rows, x);
 }

@@ -46,7 +46,7 @@ fn derive_moments(t: &Run, e: Ends, w: &mut [u64], c: &mut [u16]) -> DeriveAnswe
     if run_rows::cases::CLASS_SETS <= set {
         return DeriveAnswer::NotBefore;
     }
-    let size = work_walks::STEPS.layer_of(w, 3 * t.rows, first) + 1;
+    let size = work_walks::apart::STEPS.layer_of(w, 3 * t.rows, first) + 1;
     chains::write_steps(t, set + 1, first, second, size, w, c);
     DeriveAnswer::Chain {
         classes: set + 1,

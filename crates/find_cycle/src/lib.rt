@@ -70,6 +70,6 @@ pub fn write_rows(w: &[u64], n: usize, x: usize, size: usize, c: &mut [u16])
     let mut z = x;
     for i in 0..size {
         c[i] = z as u16;
-        z = work_walks::EDGES.next(w, n, size - i - 1, z);
+        z = work_walks::apart::EDGES.next(w, n, size - i - 1, z);
     }
 }

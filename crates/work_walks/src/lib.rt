@@ -6,15 +6,17 @@ ghost use Rattle.std.specs.Prelude.{◌≡◌, ◌+◌, ◌*◌, ◌≤◌, ◌<
 ghost use Rattle.finite.specs.Below.{least};
 ghost use Rattle.bits.specs.Within.{Within};
 ghost use Rattle.bits.specs.Fill.{row_fill};
-ghost use Rattle.work_walks.specs.Layers.{Room, step_bit, reaches, in_layer, after, Layers, Returns};
+ghost use Rattle.work_walks.specs.Layers.{Room, Laid, step_bit, reaches, in_layer, after, Layers, Returns};
 
-// Where the steps and the layers begin, in words; a row of either has STRIDE words. The steps of as many numbers as a row has bits stand
-// before the layers.
+pub mod apart; // the same where the steps stand before the layers for a whole row's bits
+#[cfg(test)]
+mod tests;
+
+// Where the steps and the layers begin, in words; a row of either has STRIDE words.
 #[derive(Clone, Copy)]
 pub struct Walks<const STRIDE: usize> {
     pub steps: usize,
     pub layers: usize,
-    ghost apart: { steps + 64 * STRIDE * STRIDE ≤ layers },
 }
 
 // Along the edges: they and their layers are grids over rows.
@@ -33,7 +35,7 @@ impl<const STRIDE: usize> Walks<STRIDE> {
     // The least number that a step from z leads to and that is in layer k; n where there is none.
     // Ruled out: one that gives the last such number; one that reads the steps that lead to z.
     pub fn next(self, w: &[u64], n: usize, k: usize, z: usize) -> usize
-        requires { Room self.layers STRIDE n (length w.now) × (k ≤ n) × (z < n) }
+        requires { Laid self.steps self.layers STRIDE n (length w.now) × (k ≤ n) × (z < n) }
         ensures { result ≡ least n (step_bit w.now self.entry.steps self.entry.layers STRIDE k z) }
     {
         let y = work_sets::first_both(w, self.steps + z * STRIDE, self.layers + k * STRIDE, STRIDE);
@@ -42,7 +44,7 @@ impl<const STRIDE: usize> Walks<STRIDE> {
 
     // Adds the numbers from which a step leads into layer k to the layer after it.
     fn fill_after(self, w: &mut [u64], n: usize, k: usize)
-        requires { Room self.layers STRIDE n (length w.old) × (k < n) }
+        requires { Laid self.steps self.layers STRIDE n (length w.old) × (k < n) }
         ensures { w.new ≡ row_fill (reaches w.old self.entry.steps self.entry.layers STRIDE n k) w.old (after self.entry.layers STRIDE k) n }
     {
         let at = (self.layers + k * STRIDE + STRIDE) * 64;
@@ -55,7 +57,7 @@ impl<const STRIDE: usize> Walks<STRIDE> {
     // Layer k becomes the numbers from which k steps lead to x, for each k up to n. After an empty layer there are none to add.
     // Ruled out: one that leaves old bits in the layers; one that begins with x in layer 1; one that goes along the steps from x.
     pub fn fill_layers(self, w: &mut [u64], n: usize, x: usize)
-        requires { Room self.layers STRIDE n (length w.old) × (x < n) }
+        requires { Laid self.steps self.layers STRIDE n (length w.old) × (x < n) }
         ensures { let m = self.entry in
             Layers m.steps m.layers STRIDE n x w.new × Within m.layers (m.layers + n * STRIDE + STRIDE) w.old w.new }
     {
@@ -89,7 +91,7 @@ impl<const STRIDE: usize> Walks<STRIDE> {
     // there is none.
     // Ruled out: one that finds x in layer 0; one that stops before the layer that has x again is made.
     pub fn fill_until(self, w: &mut [u64], n: usize, x: usize) -> usize
-        requires { Room self.layers STRIDE n (length w.old) × (x < n) }
+        requires { Laid self.steps self.layers STRIDE n (length w.old) × (x < n) }
         ensures { let m = self.entry in
             Returns m.steps m.layers STRIDE n x result w.new × Within m.layers (m.layers + n * STRIDE + STRIDE) w.old w.new }
     {

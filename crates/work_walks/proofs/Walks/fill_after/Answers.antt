@@ -5,7 +5,6 @@ use Rattle.bits.specs.Matrix.{row_apart}
 use Rattle.bits.specs.Fill.{row_fill_none, row_fill_put, length_row_fill}
 use Rattle.work_walks.proofs.Rounds.{turn_test}
 use borrow.Author.Rules.{rules}
-use Rattle.work_walks.specs.Layers.{room_apart}
 use Rattle.work_walks.proofs.Walks.fill_after.Goals as goal
 
 pub overflow_mul-at : goal.overflow_mul-at
@@ -35,7 +34,7 @@ pub loop-z-preserved : goal.loop-z-preserved
 loop-z-preserved g c =
     let put = c.put_if in
     let inv = c.loop-z.invariant in
-    let t = turn_test _ _ _ _ c.requires.0.0 (room_apart _ _ _ c.args.self.apart c.requires.0) _ _ _ _ _ inv.2 _ _ c.loop-z-test.true c.next-y.ensures in
+    let t = turn_test _ _ _ _ c.requires.0.room.0 c.requires.0.apart _ _ _ _ _ inv.2 _ _ c.loop-z-test.true c.next-y.ensures in
     let e = row_fill_put _ _ _ put.new.w _ _ _ _ inv.2 t refl put.ensures in
     (search rules, ap length e ∙ length_row_fill _ _ _ _, e)
 

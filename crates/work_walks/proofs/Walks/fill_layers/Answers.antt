@@ -4,14 +4,13 @@ use Rattle.bits.specs.Matrix.{rel, row_apart}
 use Rattle.work_sets.specs.Meet.{least_empty}
 use Rattle.work_walks.proofs.Rounds.{rounds_none, rounds_more, rounds_empty, rounds_done}
 use borrow.Author.Rules.{rules}
-use Rattle.work_walks.specs.Layers.{room_apart}
 use Rattle.work_walks.proofs.Walks.fill_layers.Goals as goal
 
 pub loop-k-init : goal.loop-k-init
 loop-k-init g c = (
   search rules,
   refl,
-  rounds_none _ _ _ _ c.requires.0.0 (room_apart _ _ _ c.args.self.apart c.requires.0) _ _ _ _ c.requires.1 c.requires.0.1
+  rounds_none _ _ _ _ c.requires.0.room.0 c.requires.0.apart _ _ _ _ c.requires.1 c.requires.0.room.1
       c.clear.ensures c.put.ensures,
 )
 
@@ -33,14 +32,14 @@ first_both-requires g c =
 pub returns-then-first_both : goal.returns-then-first_both
 unfolding rel
 returns-then-first_both g c =
-    let fits = c.requires.0.0 in
-    rounds_done _ _ _ _ fits (room_apart _ _ _ c.args.self.apart c.requires.0) _ _ _ _ c.requires.1 c.requires.0.1 c.clear.ensures c.put.ensures
-    (rounds_empty _ _ _ _ fits (room_apart _ _ _ c.args.self.apart c.requires.0) _ _ _ _ (search rules)
+    let fits = c.requires.0.room.0 in
+    rounds_done _ _ _ _ fits c.requires.0.apart _ _ _ _ c.requires.1 c.requires.0.room.1 c.clear.ensures c.put.ensures
+    (rounds_empty _ _ _ _ fits c.requires.0.apart _ _ _ _ (search rules)
     (λ z b. least_empty _ _ _ _ c.first_both.ensures c.if-first_both.true z (omega arith)) c.loop-k.invariant.2)
 
 pub loop-k-preserved : goal.loop-k-preserved
 loop-k-preserved g c =
-    let more = rounds_more _ _ _ _ c.requires.0.0 (room_apart _ _ _ c.args.self.apart c.requires.0) _ _ _ _ _ (search rules)
+    let more = rounds_more _ _ _ _ c.requires.0.room.0 c.requires.0.apart _ _ _ _ _ (search rules)
     c.loop-k-test.true c.loop-k.invariant.2
     c.fill_after.ensures in
     (search rules, more.frame.len, more)
@@ -48,5 +47,5 @@ loop-k-preserved g c =
 pub returns : goal.returns
 returns g c =
     let e : c.loop-k.k ≡ c.args.n = omega arith in
-    rounds_done _ _ _ _ c.requires.0.0 (room_apart _ _ _ c.args.self.apart c.requires.0) _ _ _ _ c.requires.1 c.requires.0.1 c.clear.ensures
+    rounds_done _ _ _ _ c.requires.0.room.0 c.requires.0.apart _ _ _ _ c.requires.1 c.requires.0.room.1 c.clear.ensures
     c.put.ensures (rw e at c.loop-k.invariant.2)

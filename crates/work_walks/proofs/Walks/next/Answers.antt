@@ -34,9 +34,9 @@ first_both-y-requires g c = (
 pub returns-then-y-n : goal.returns-then-y-n
 unfolding both step_bit rel
 returns-then-y-n g c =
-    least_inside c.requires.0.0 c.first_both-y.ensures c.if-y-n.true
+    least_inside c.requires.0.room.0 c.first_both-y.ensures c.if-y-n.true
 
 pub returns-else-y-n : goal.returns-else-y-n
 unfolding both step_bit rel
 returns-else-y-n g c =
-    least_outside c.requires.0.0 c.first_both-y.ensures c.if-y-n.false
+    least_outside c.requires.0.room.0 c.first_both-y.ensures c.if-y-n.false

@@ -1,4 +1,5 @@
-// Walks whose steps stand before the layers for as many numbers as a row has bits: who takes them shows that the layers fit, and no more.
+// Walks that are known to have room before the layers for the steps of as many numbers as a row has bits: a call shows only that the layers
+// fit.
 ghost use Rattle.std.specs.Prelude.{◌≡◌, ◌+◌, ◌*◌, ◌≤◌, ◌<◌, length};
 ghost use Rattle.finite.specs.Below.{least};
 ghost use Rattle.bits.specs.Within.{Within};
@@ -6,6 +7,8 @@ ghost use Rattle.work_walks.specs.Layers.{Room, step_bit, in_layer, Layers, Retu
 
 use crate::Walks;
 
+// Where the steps and the layers begin, in words; a row of either has STRIDE words. The steps of as many numbers as a row has bits stand
+// before the layers.
 #[derive(Clone, Copy)]
 pub struct ApartWalks<const STRIDE: usize> {
     pub steps: usize,
@@ -44,7 +47,7 @@ impl<const STRIDE: usize> ApartWalks<STRIDE> {
         self.walks().next(w, n, k, z)
     }
 
-    // Layer k becomes the numbers from which k steps lead to x, for each k up to n.
+    // Layer k becomes the numbers from which k steps lead to x, for each k up to n. After an empty layer there are none to add.
     // Ruled out: one that leaves old bits in the layers; one that begins with x in layer 1; one that goes along the steps from x.
     pub fn fill_layers(self, w: &mut [u64], n: usize, x: usize)
         requires { Room self.layers STRIDE n (length w.old) × (x < n) }

@@ -8,7 +8,7 @@ ghost use Rattle.bits.specs.Within.{Within};
 ghost use Rattle.bits.specs.Fill.{row_fill};
 ghost use Rattle.work_walks.specs.Layers.{Room, Laid, step_bit, reaches, in_layer, after, Layers, Returns};
 
-pub mod apart; // the same where the steps stand before the layers for a whole row's bits
+pub mod apart; // the same, with room before the layers for the steps of as many numbers as a row has bits
 #[cfg(test)]
 mod tests;
 

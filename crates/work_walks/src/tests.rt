@@ -1,8 +1,8 @@
-// Walks over three numbers: 0 leads to 1, 1 to 0 and 2, 2 to 0.
+// Walks over three numbers; the words were worked out by hand. Mostly 0 leads to 1, 1 to 0 and 2, 2 to 0.
 use crate::apart::ApartWalks;
 use crate::{EDGES, STEPS, Walks};
 
-// A row of one word has the bits of 64 numbers; the layers stand behind the steps of three.
+// A row of one word has the bits of 64 numbers; the layers stand after the steps of three.
 const CLOSE: Walks<1> = Walks {
     steps: 0,
     layers: 3,
@@ -48,14 +48,14 @@ fn steps_lead_to_a_moment(rt: HostRuntime) {
     assert_eq!(rt; STEPS.next(&w, 3, 1, 1), 2);
 }
 
-// The layers stand behind the steps of all 64.
+// The layers stand after the steps of all 64.
 const APART: ApartWalks<1> = ApartWalks {
     steps: 0,
     layers: 64,
 };
 
 #[test]
-fn further_behind_the_steps_the_layers_are_the_same(rt: HostRuntime) {
+fn further_after_the_steps_the_layers_are_the_same(rt: HostRuntime) {
     let mut w = [u64::MAX; 68];
     w[0] = 2;
     w[1] = 5;
